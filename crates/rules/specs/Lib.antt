@@ -1,0 +1,14 @@
+pub mod Lists
+pub mod Table
+pub mod Board
+pub mod WellFormed
+pub mod Snapshot
+pub mod Draws
+pub mod Moves
+pub mod Turns
+pub mod Places
+pub mod Reshapes
+pub mod Schedule
+pub mod Cut
+pub mod SeatCheck
+pub mod Calls

@@ -1,0 +1,1 @@
+// The rules are definitions (specs/) and theorems about them (proofs/); they hold no code.
