@@ -100,8 +100,8 @@ impl Place {
     {
         match self {
             Place::Pooled => true,
-            Place::Seated { shard: _, ready: _, placed_at_epoch: _ } => false,
-            Place::Observing { shard: _, placed_at_epoch: _ } => false,
+            Place::Seated { .. } => false,
+            Place::Observing { .. } => false,
             Place::Short => false,
             Place::Other(_) => false,
         }
@@ -112,8 +112,8 @@ impl Place {
     {
         match self {
             Place::Pooled => false,
-            Place::Seated { shard, ready: _, placed_at_epoch: _ } => shard.0 == on.0,
-            Place::Observing { shard: _, placed_at_epoch: _ } => false,
+            Place::Seated { shard, .. } => shard.0 == on.0,
+            Place::Observing { .. } => false,
             Place::Short => false,
             Place::Other(_) => false,
         }
@@ -124,8 +124,8 @@ impl Place {
     {
         match self {
             Place::Pooled => false,
-            Place::Seated { shard: _, ready: _, placed_at_epoch: _ } => false,
-            Place::Observing { shard: _, placed_at_epoch: _ } => true,
+            Place::Seated { .. } => false,
+            Place::Observing { .. } => true,
             Place::Short => false,
             Place::Other(_) => false,
         }
@@ -136,8 +136,8 @@ impl Place {
     {
         match self {
             Place::Pooled => false,
-            Place::Seated { shard: _, ready: _, placed_at_epoch: _ } => false,
-            Place::Observing { shard, placed_at_epoch: _ } => shard.0 == on.0,
+            Place::Seated { .. } => false,
+            Place::Observing { shard, .. } => shard.0 == on.0,
             Place::Short => false,
             Place::Other(_) => false,
         }
@@ -148,8 +148,8 @@ impl Place {
     {
         match self {
             Place::Pooled => false,
-            Place::Seated { shard: _, ready, placed_at_epoch: _ } => ready,
-            Place::Observing { shard: _, placed_at_epoch: _ } => false,
+            Place::Seated { ready, .. } => ready,
+            Place::Observing { .. } => false,
             Place::Short => false,
             Place::Other(_) => false,
         }
@@ -161,7 +161,11 @@ impl Place {
     {
         match self {
             Place::Pooled => false,
-            Place::Seated { shard: _, ready, placed_at_epoch } => {
+            Place::Seated {
+                ready,
+                placed_at_epoch,
+                ..
+            } => {
                 let from = placed_at_epoch.0;
                 let by = epoch.0;
                 if ready {
@@ -172,7 +176,7 @@ impl Place {
                 }
                 wait <= by - from
             }
-            Place::Observing { shard: _, placed_at_epoch: _ } => false,
+            Place::Observing { .. } => false,
             Place::Short => false,
             Place::Other(_) => false,
         }
@@ -196,14 +200,21 @@ impl Place {
     pub fn drawn_to(self, to: ShardId, epoch: Epoch) -> Place
         ensures { λ r. ⌜ r ≡ drawnTo (to .0) (epoch .0) self ⌝ }
     {
-        Place::Seated { shard: to, ready: false, placed_at_epoch: epoch }
+        Place::Seated {
+            shard: to,
+            ready: false,
+            placed_at_epoch: epoch,
+        }
     }
 
     // Drawn from the pool into a cohort: observing the target, stamped now.
     pub fn set_to_watch(self, target: ShardId, epoch: Epoch) -> Place
         ensures { λ r. ⌜ r ≡ setToWatch (target .0) (epoch .0) self ⌝ }
     {
-        Place::Observing { shard: target, placed_at_epoch: epoch }
+        Place::Observing {
+            shard: target,
+            placed_at_epoch: epoch,
+        }
     }
 
     // A seated machine moves to another shard and keeps ready and stamp.
@@ -211,15 +222,19 @@ impl Place {
         ensures { λ r. ⌜ r ≡ movedTo (to .0) self ⌝ }
     {
         match self {
-            Place::Pooled => Place::Pooled,
-            Place::Seated { shard: _, ready, placed_at_epoch } => {
-                Place::Seated { shard: to, ready: ready, placed_at_epoch: placed_at_epoch }
-            }
-            Place::Observing { shard, placed_at_epoch } => {
-                Place::Observing { shard: shard, placed_at_epoch: placed_at_epoch }
-            }
-            Place::Short => Place::Short,
-            Place::Other(mark) => Place::Other(mark),
+            Place::Pooled => self,
+            Place::Seated {
+                ready,
+                placed_at_epoch,
+                ..
+            } => Place::Seated {
+                shard: to,
+                ready,
+                placed_at_epoch,
+            },
+            Place::Observing { .. } => self,
+            Place::Short => self,
+            Place::Other(_) => self,
         }
     }
 
@@ -228,15 +243,18 @@ impl Place {
         ensures { λ r. ⌜ r ≡ keptOn (to .0) marked self ⌝ }
     {
         match self {
-            Place::Pooled => Place::Pooled,
-            Place::Seated { shard: _, ready: _, placed_at_epoch } => {
-                Place::Seated { shard: to, ready: marked, placed_at_epoch: placed_at_epoch }
-            }
-            Place::Observing { shard, placed_at_epoch } => {
-                Place::Observing { shard: shard, placed_at_epoch: placed_at_epoch }
-            }
-            Place::Short => Place::Short,
-            Place::Other(mark) => Place::Other(mark),
+            Place::Pooled => self,
+            Place::Seated {
+                placed_at_epoch,
+                ..
+            } => Place::Seated {
+                shard: to,
+                ready: marked,
+                placed_at_epoch,
+            },
+            Place::Observing { .. } => self,
+            Place::Short => self,
+            Place::Other(_) => self,
         }
     }
 
@@ -245,15 +263,15 @@ impl Place {
         ensures { λ r. ⌜ r ≡ seatedFromWatch (to .0) marked (epoch .0) self ⌝ }
     {
         match self {
-            Place::Pooled => Place::Pooled,
-            Place::Seated { shard, ready, placed_at_epoch } => {
-                Place::Seated { shard: shard, ready: ready, placed_at_epoch: placed_at_epoch }
-            }
-            Place::Observing { shard: _, placed_at_epoch: _ } => {
-                Place::Seated { shard: to, ready: marked, placed_at_epoch: epoch }
-            }
-            Place::Short => Place::Short,
-            Place::Other(mark) => Place::Other(mark),
+            Place::Pooled => self,
+            Place::Seated { .. } => self,
+            Place::Observing { .. } => Place::Seated {
+                shard: to,
+                ready: marked,
+                placed_at_epoch: epoch,
+            },
+            Place::Short => self,
+            Place::Other(_) => self,
         }
     }
 
@@ -262,15 +280,19 @@ impl Place {
         ensures { λ r. ⌜ r ≡ madeReady self ⌝ }
     {
         match self {
-            Place::Pooled => Place::Pooled,
-            Place::Seated { shard, ready: _, placed_at_epoch } => {
-                Place::Seated { shard: shard, ready: true, placed_at_epoch: placed_at_epoch }
-            }
-            Place::Observing { shard, placed_at_epoch } => {
-                Place::Observing { shard: shard, placed_at_epoch: placed_at_epoch }
-            }
-            Place::Short => Place::Short,
-            Place::Other(mark) => Place::Other(mark),
+            Place::Pooled => self,
+            Place::Seated {
+                shard,
+                placed_at_epoch,
+                ..
+            } => Place::Seated {
+                shard,
+                ready: true,
+                placed_at_epoch,
+            },
+            Place::Observing { .. } => self,
+            Place::Short => self,
+            Place::Other(_) => self,
         }
     }
 }
