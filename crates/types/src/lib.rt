@@ -182,6 +182,16 @@ impl Place {
         }
     }
 
+    fn seated(shard: ShardId, ready: bool, stamp: Epoch) -> Place
+        ensures { λ r. ⌜ r ≡ Place.Seated shard ready stamp ⌝ }
+    {
+        Place::Seated {
+            shard,
+            ready,
+            placed_at_epoch: stamp,
+        }
+    }
+
     // To the pool, from any place.
     pub fn pooled(self) -> Place
         ensures { λ r. ⌜ r ≡ pooled self ⌝ }
@@ -200,11 +210,7 @@ impl Place {
     pub fn drawn_to(self, to: ShardId, epoch: Epoch) -> Place
         ensures { λ r. ⌜ r ≡ drawnTo (to .0) (epoch .0) self ⌝ }
     {
-        Place::Seated {
-            shard: to,
-            ready: false,
-            placed_at_epoch: epoch,
-        }
+        Place::seated(to, false, epoch)
     }
 
     // Drawn from the pool into a cohort: observing the target, stamped now.
@@ -227,11 +233,7 @@ impl Place {
                 ready,
                 placed_at_epoch,
                 ..
-            } => Place::Seated {
-                shard: to,
-                ready,
-                placed_at_epoch,
-            },
+            } => Place::seated(to, ready, placed_at_epoch),
             Place::Observing { .. } => self,
             Place::Short => self,
             Place::Other(_) => self,
@@ -245,13 +247,10 @@ impl Place {
         match self {
             Place::Pooled => self,
             Place::Seated {
+                shard: _,
+                ready: _,
                 placed_at_epoch,
-                ..
-            } => Place::Seated {
-                shard: to,
-                ready: marked,
-                placed_at_epoch,
-            },
+            } => Place::seated(to, marked, placed_at_epoch),
             Place::Observing { .. } => self,
             Place::Short => self,
             Place::Other(_) => self,
@@ -265,11 +264,7 @@ impl Place {
         match self {
             Place::Pooled => self,
             Place::Seated { .. } => self,
-            Place::Observing { .. } => Place::Seated {
-                shard: to,
-                ready: marked,
-                placed_at_epoch: epoch,
-            },
+            Place::Observing { .. } => Place::seated(to, marked, epoch),
             Place::Short => self,
             Place::Other(_) => self,
         }
@@ -285,11 +280,7 @@ impl Place {
                 shard,
                 placed_at_epoch,
                 ..
-            } => Place::Seated {
-                shard,
-                ready: true,
-                placed_at_epoch,
-            },
+            } => Place::seated(shard, true, placed_at_epoch),
             Place::Observing { .. } => self,
             Place::Short => self,
             Place::Other(_) => self,

@@ -4,10 +4,10 @@ use Rattle.types.proofs.Place.is_overdue.Statement.{statement}
 use Rattle.types.proofs.Place.is_overdue.Tie as tie
 
 returns-2 : tie.Need-returns-2
-returns-2 c = stamped-later _ (c .before .before .before .self .given .1) (c .before .if1 .left) (c .if2 .taken)
+returns-2 c = search stamped-later
 
 returns-4 : tie.Need-returns-4
-returns-4 c = stamped-by-now _ (c .before .before .before .self .given .1) (c .before .if1 .left) (c .if2 .left)
+returns-4 c = search stamped-by-now
 
 pub is-overdue-spec : {M : Type 1} → statement M
 is-overdue-spec =

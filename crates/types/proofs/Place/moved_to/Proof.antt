@@ -3,7 +3,7 @@ use Rattle.types.proofs.Place.moved_to.Statement.{statement}
 use Rattle.types.proofs.Place.moved_to.Tie as tie
 
 returns-2 : tie.Need-returns-2
-returns-2 c = rw (c .before .self .given .1)
+returns-2 c = rw (c .before .before .self .given .1) (c .seated .ensures)
 
 pub moved-to-spec : {M : Type 1} → statement M
 moved-to-spec =
@@ -11,6 +11,7 @@ moved-to-spec =
     (tie.spec
     (λ c. search needs)
     (λ c. search needs)
+    (λ c κs. search needs)
     (λ c. search needs)
     (λ c. search needs)
     (λ c. search needs)
