@@ -94,6 +94,200 @@ pub fn quorum_of(size: u64) -> u64
     2 * byzantine_threshold(size) + 1
 }
 
+impl Place {
+    pub fn is_pooled(self) -> bool
+        ensures { λ r. ⌜ r ≡ isPooled self ⌝ }
+    {
+        match self {
+            Place::Pooled => true,
+            Place::Seated { .. } => false,
+            Place::Observing { .. } => false,
+            Place::Short => false,
+            Place::Other(_) => false,
+        }
+    }
+
+    pub fn is_seated_on(self, on: ShardId) -> bool
+        ensures { λ r. ⌜ r ≡ isSeatedOn (on .0) self ⌝ }
+    {
+        match self {
+            Place::Pooled => false,
+            Place::Seated { shard, .. } => shard.0 == on.0,
+            Place::Observing { .. } => false,
+            Place::Short => false,
+            Place::Other(_) => false,
+        }
+    }
+
+    pub fn is_observing(self) -> bool
+        ensures { λ r. ⌜ r ≡ isObserving self ⌝ }
+    {
+        match self {
+            Place::Pooled => false,
+            Place::Seated { .. } => false,
+            Place::Observing { .. } => true,
+            Place::Short => false,
+            Place::Other(_) => false,
+        }
+    }
+
+    pub fn observes_shard(self, on: ShardId) -> bool
+        ensures { λ r. ⌜ r ≡ observes (on .0) self ⌝ }
+    {
+        match self {
+            Place::Pooled => false,
+            Place::Seated { .. } => false,
+            Place::Observing { shard, .. } => shard.0 == on.0,
+            Place::Short => false,
+            Place::Other(_) => false,
+        }
+    }
+
+    pub fn is_ready(self) -> bool
+        ensures { λ r. ⌜ r ≡ isReady self ⌝ }
+    {
+        match self {
+            Place::Pooled => false,
+            Place::Seated { ready, .. } => ready,
+            Place::Observing { .. } => false,
+            Place::Short => false,
+            Place::Other(_) => false,
+        }
+    }
+
+    // Seated, waiting, and at or past its deadline; no sum here can pass 64 bits.
+    pub fn is_overdue(self, epoch: Epoch, wait: u64) -> bool
+        ensures { λ r. ⌜ r ≡ isOverdue (epoch .0) wait self ⌝ }
+    {
+        match self {
+            Place::Pooled => false,
+            Place::Seated {
+                ready,
+                placed_at_epoch,
+                ..
+            } => {
+                let from = placed_at_epoch.0;
+                let by = epoch.0;
+                if ready {
+                    return false;
+                }
+                if by < from {
+                    return false;
+                }
+                wait <= by - from
+            }
+            Place::Observing { .. } => false,
+            Place::Short => false,
+            Place::Other(_) => false,
+        }
+    }
+
+    fn seated(shard: ShardId, ready: bool, stamp: Epoch) -> Place
+        ensures { λ r. ⌜ r ≡ Place.Seated shard ready stamp ⌝ }
+    {
+        Place::Seated {
+            shard,
+            ready,
+            placed_at_epoch: stamp,
+        }
+    }
+
+    // To the pool, from any place.
+    pub fn pooled(self) -> Place
+        ensures { λ r. ⌜ r ≡ pooled self ⌝ }
+    {
+        Place::Pooled
+    }
+
+    // Short of stake, from any place.
+    pub fn short(self) -> Place
+        ensures { λ r. ⌜ r ≡ short self ⌝ }
+    {
+        Place::Short
+    }
+
+    // Drawn from the pool to a seat: waiting, stamped now.
+    pub fn drawn_to(self, to: ShardId, epoch: Epoch) -> Place
+        ensures { λ r. ⌜ r ≡ drawnTo (to .0) (epoch .0) self ⌝ }
+    {
+        Place::seated(to, false, epoch)
+    }
+
+    // Drawn from the pool into a cohort: observing the target, stamped now.
+    pub fn set_to_watch(self, target: ShardId, epoch: Epoch) -> Place
+        ensures { λ r. ⌜ r ≡ setToWatch (target .0) (epoch .0) self ⌝ }
+    {
+        Place::Observing {
+            shard: target,
+            placed_at_epoch: epoch,
+        }
+    }
+
+    // A seated machine moves to another shard and keeps ready and stamp.
+    pub fn moved_to(self, to: ShardId) -> Place
+        ensures { λ r. ⌜ r ≡ movedTo (to .0) self ⌝ }
+    {
+        match self {
+            Place::Pooled => self,
+            Place::Seated {
+                ready,
+                placed_at_epoch,
+                ..
+            } => Place::seated(to, ready, placed_at_epoch),
+            Place::Observing { .. } => self,
+            Place::Short => self,
+            Place::Other(_) => self,
+        }
+    }
+
+    // A keeper moves to the parent with its seat's ready, and keeps its stamp.
+    pub fn kept_on(self, to: ShardId, marked: bool) -> Place
+        ensures { λ r. ⌜ r ≡ keptOn (to .0) marked self ⌝ }
+    {
+        match self {
+            Place::Pooled => self,
+            Place::Seated {
+                shard: _,
+                ready: _,
+                placed_at_epoch,
+            } => Place::seated(to, marked, placed_at_epoch),
+            Place::Observing { .. } => self,
+            Place::Short => self,
+            Place::Other(_) => self,
+        }
+    }
+
+    // A watcher is seated with its seat's ready, stamped now.
+    pub fn seated_from_watch(self, to: ShardId, marked: bool, epoch: Epoch) -> Place
+        ensures { λ r. ⌜ r ≡ seatedFromWatch (to .0) marked (epoch .0) self ⌝ }
+    {
+        match self {
+            Place::Pooled => self,
+            Place::Seated { .. } => self,
+            Place::Observing { .. } => Place::seated(to, marked, epoch),
+            Place::Short => self,
+            Place::Other(_) => self,
+        }
+    }
+
+    // A waiting machine becomes ready and keeps its stamp.
+    pub fn made_ready(self) -> Place
+        ensures { λ r. ⌜ r ≡ madeReady self ⌝ }
+    {
+        match self {
+            Place::Pooled => self,
+            Place::Seated {
+                shard,
+                placed_at_epoch,
+                ..
+            } => Place::seated(shard, true, placed_at_epoch),
+            Place::Observing { .. } => self,
+            Place::Short => self,
+            Place::Other(_) => self,
+        }
+    }
+}
+
 impl Answer {
     pub fn number(self) -> u64
         ensures { λ r. ⌜ r ≡ numberOf self ⌝ }
