@@ -2,3 +2,4 @@ pub mod Computes
 pub mod Cases
 pub mod Counts
 pub mod Tables
+pub mod Reflect

@@ -2,7 +2,7 @@
 use Prim.Native.Nat.{ℕ}
 use mathlib.Core.List.{List, [], _∷_, _++_}
 use mathlib.Core.Option.{Option, none, some}
-use mathlib.Core.Bool.{Bool, true, false, cond, not, _&&_, _||_}
+use mathlib.Core.Bool.{Bool, true, false, cond, not}
 use lib.Dec.{eqb, leb}
 use lib.ListN.{length}
 use Rattle.types.specs.Numbers.{Shard, Id, Epoch, Height}
@@ -10,7 +10,7 @@ use Rattle.types.specs.Shards.{leftOf, rightOf}
 use Rattle.types.specs.Places.{isSeatedOn, isObserving, pooled, movedTo, keptOn, seatedFromWatch}
 use Rattle.types.specs.declared.Place.{Place}
 use Rattle.types.specs.declared.Answer.the-variants.{NoRecord, NoBoundary, NoRoom}
-use Rattle.rules.specs.Lists.{every, keep}
+use Rattle.rules.specs.Lists.{_and_, _or_, every, keep}
 use Rattle.rules.specs.Table.{Entry, Table, at, stands, put, remove, keysWhere, keysOf}
 use Rattle.rules.specs.Board.{Kind, split, merge, Seat, Reshape, Board, mostCommittees, mostBounds, onCommittees, onBounds, onRotations, onReshapes, epochOf}
 use Rattle.rules.specs.Moves.{membersOf, place, putOn, forAll, dropRotations, isKind, oldShards, newShards, boundsStand, newBoundary, heightOf}
@@ -21,7 +21,7 @@ unfoldable pub isTerminal : Epoch → Reshape → Bool
 isTerminal epoch r = elim (r .terminal) [ none ↦ false | some e ↦ leb e epoch ]
 
 unfoldable pub due : Kind → Board → List Shard
-due k b = keysWhere (λ r. isKind k r && isTerminal (epochOf b) r) (b .reshapes)
+due k b = keysWhere (λ r. isKind k r and isTerminal (epochOf b) r) (b .reshapes)
 
 -- ---- the tables of a family at its cut: record, committees and rotations of the old shards go; the new shards get an empty committee and a boundary
 
@@ -35,7 +35,7 @@ unfoldable pub recast : Kind → Shard → Height → Board → Board
 recast k t height b = forAll (beginShard height) (newShards k t) (forAll endShard (oldShards k t) (onReshapes (remove t) b))
 
 unfoldable pub fits : Board → Bool
-fits b = leb (length (b .committees)) mostCommittees && leb (length (b .bounds)) mostBounds
+fits b = leb (length (b .committees)) mostCommittees and leb (length (b .bounds)) mostBounds
 
 -- what a cut asks: 5, then 4 of a list of ids, then 11 of the board that it comes to
 unfoldable pub cutFaults : Kind → Shard → List Id → Board → Board → List Fault
@@ -89,7 +89,7 @@ rejoin t keepers x b =
     elim (at x (b .machines)) [
       | none ↦ b
       | some p ↦
-          elim (at x keepers) [ none ↦ b | some q ↦ cond (isSeatedOn (leftOf t) p || isSeatedOn (rightOf t) p) (putOn t (keptOn t (q .ready)) x b) b ]
+          elim (at x keepers) [ none ↦ b | some q ↦ cond (isSeatedOn (leftOf t) p or isSeatedOn (rightOf t) p) (putOn t (keptOn t (q .ready)) x b) b ]
     ]
 
 -- 'height the larger child's'

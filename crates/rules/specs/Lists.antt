@@ -1,13 +1,25 @@
 -- What the rules ask of lists.
 use Prim.Native.Nat.{ℕ, zero, suc, _+_}
 use mathlib.Core.List.{List, [], _∷_}
-use mathlib.Core.Bool.{Bool, true, false, cond, not, _&&_, _||_}
+use mathlib.Core.Bool.{Bool, true, false, cond, not}
 use lib.Dec.{eqb, leb}
+
+infixr 35 _and_
+infixr 30 _or_
+
+-- both say yes; at least one does
+unfoldable pub _and_ : Bool → Bool → Bool
+true and c = c
+false and c = false
+
+unfoldable pub _or_ : Bool → Bool → Bool
+true or c = true
+false or c = c
 
 -- every test says yes
 unfoldable pub allOf : List Bool → Bool
 allOf [] = true
-allOf (c ∷ cs) = c && allOf cs
+allOf (c ∷ cs) = c and allOf cs
 
 -- 1 for yes, 0 for no
 abbrev pub bitOf : Bool → ℕ
@@ -17,11 +29,11 @@ bitOf false = 0
 module _ {A : Type 0} where
   unfoldable pub every : (A → Bool) → List A → Bool
   every f [] = true
-  every f (x ∷ l) = f x && every f l
+  every f (x ∷ l) = f x and every f l
 
   unfoldable pub any : (A → Bool) → List A → Bool
   any f [] = false
-  any f (x ∷ l) = f x || any f l
+  any f (x ∷ l) = f x or any f l
 
   -- how many pass a test, and those that do
   unfoldable pub count : (A → Bool) → List A → ℕ
@@ -42,7 +54,7 @@ has x = any (λ y. eqb y x)
 
 unfoldable pub distinct : List ℕ → Bool
 distinct [] = true
-distinct (x ∷ l) = not (has x l) && distinct l
+distinct (x ∷ l) = not (has x l) and distinct l
 
 -- all but a number
 unfoldable pub strike : ℕ → List ℕ → List ℕ
@@ -62,4 +74,4 @@ unfoldable pub same : List ℕ → List ℕ → Bool
 same [] [] = true
 same [] (y ∷ m) = false
 same (x ∷ l) [] = false
-same (x ∷ l) (y ∷ m) = eqb x y && same l m
+same (x ∷ l) (y ∷ m) = eqb x y and same l m

@@ -2,14 +2,14 @@
 use Prim.Native.Nat.{ℕ, _+_, _*_}
 use mathlib.Core.List.{List, [], _∷_, _++_}
 use mathlib.Core.Option.{Option, none, some}
-use mathlib.Core.Bool.{Bool, true, false, cond, not, _&&_, _||_}
+use mathlib.Core.Bool.{Bool, true, false, cond, not}
 use lib.Dec.{eqb, leb, ltb}
 use lib.ListN.{length}
 use Rattle.types.specs.Numbers.{Shard, Id, Epoch, Height}
 use Rattle.types.specs.Shards.{leftOf, rightOf}
 use Rattle.types.specs.Places.{isPooled, isSeatedOn, pooled, setToWatch}
 use Rattle.types.specs.declared.Place.{Place}
-use Rattle.rules.specs.Lists.{every, any, keep, has, strike}
+use Rattle.rules.specs.Lists.{_and_, _or_, every, any, keep, has, strike}
 use Rattle.rules.specs.Table.{Table, at, stands, holdsAt, put, remove, update, keysWhere}
 use Rattle.rules.specs.Board.{Boundary, Rotation, Kind, split, merge, Seat, Reshape, Board, mostCommittees, mostMembers, onMachines, onCommittees, onBounds, onRotations, onReshapes, epochOf}
 use Rattle.rules.specs.WellFormed.{rotationBefore}
@@ -59,15 +59,15 @@ pooledFrom there p = cond (there p) (pooled p) p
 -- the committee has room for ids that are to join it and are not in it yet: what 11 asks
 unfoldable pub mayJoin : Shard → List Id → Board → Bool
 mayJoin s ids b =
-    (stands s (b .committees) || ltb (length (b .committees)) mostCommittees)
-    && every (λ x. not (has x (membersOf s b))) ids
-    && leb (length (membersOf s b) + length ids) mostMembers
+    (stands s (b .committees) or ltb (length (b .committees)) mostCommittees)
+    and every (λ x. not (has x (membersOf s b))) ids
+    and leb (length (membersOf s b) + length ids) mostMembers
 
 -- ---- rotations
 
 -- on the shard, and its victim or its entrant
 unfoldable pub hasParty : Shard → Id → Rotation → Bool
-hasParty s x r = eqb (r .shard) s && (eqb (r .victim) x || eqb (r .entrant) x)
+hasParty s x r = eqb (r .shard) s and (eqb (r .victim) x or eqb (r .entrant) x)
 
 unfoldable pub isParty : Shard → Id → Board → Bool
 isParty s x b = any (hasParty s x) (b .rotations)
@@ -156,7 +156,7 @@ newShards merge t = t ∷ []
 
 -- 'the target needs a committee ..., its children no committee'; 'children need committees ..., the parent no committee'
 unfoldable pub committeesFit : Kind → Shard → Board → Bool
-committeesFit k t b = every (λ s. stands s (b .committees)) (oldShards k t) && every (λ s. not (stands s (b .committees))) (newShards k t)
+committeesFit k t b = every (λ s. stands s (b .committees)) (oldShards k t) and every (λ s. not (stands s (b .committees))) (newShards k t)
 
 unfoldable pub boundsStand : Kind → Shard → Board → Bool
 boundsStand k t b = every (λ s. stands s (b .bounds)) (oldShards k t)

@@ -2,7 +2,7 @@
 use Prim.Native.Nat.{ℕ, _+_, _%_}
 use mathlib.Core.List.{List, [], _∷_}
 use mathlib.Core.Option.{Option, none, some}
-use mathlib.Core.Bool.{Bool, true, false, cond, not, _&&_, _||_}
+use mathlib.Core.Bool.{Bool, true, false, cond, not}
 use lib.Dec.{eqb, leb, ltb}
 use lib.ListN.{length}
 use Rattle.types.specs.Numbers.{Shard, Id}
@@ -11,7 +11,7 @@ use Rattle.types.specs.Places.{isSeatedOn, isReady, isOverdue, short, madeReady
 use Rattle.types.specs.declared.Place.{Place}
 use Rattle.types.specs.declared.Place.the-variants.{Pooled, Seated, Observing, Short, Other}
 use Rattle.types.specs.declared.Answer.the-variants.{LastEpoch, OutOfRange, NoRecord, VictimUnfit}
-use Rattle.rules.specs.Lists.{count, keep}
+use Rattle.rules.specs.Lists.{_and_, count, keep}
 use Rattle.rules.specs.Table.{at, stands, holdsAt, each, countWhere, isSome}
 use Rattle.rules.specs.Board.{Settings, Rotation, split, merge, Reshape, Board, mostRotations, lastEpoch, onSettings, onMachines, onRotations, epochOf, sizeOf}
 use Rattle.rules.specs.WellFormed.{isShard}
@@ -30,7 +30,7 @@ tick b = alone [] b (checked (unlessWellFormed b ∷ eqb (epochOf b) lastEpoch g
 
 -- 'unless a scheduled split stands there'
 unfoldable pub isScheduledSplit : Reshape → Bool
-isScheduledSplit r = isKind split r && isSome (r .terminal)
+isScheduledSplit r = isKind split r and isSome (r .terminal)
 
 -- 'struck from committee and from keepers of a merge at the shard's parent'
 unfoldable pub leaveSeat : Shard → Id → Board → Board
@@ -61,20 +61,20 @@ leave x draws b = alone draws b (checked (unlessWellFormed b ∷ []) (leaveTurn 
 
 -- 'rotations whose entrant isn't seated and ready'
 unfoldable pub inFlight : Shard → Board → ℕ
-inFlight s b = count (λ r. isOn s r && not (says isReady b (r .entrant))) (b .rotations)
+inFlight s b = count (λ r. isOn s r and not (says isReady b (r .entrant))) (b .rotations)
 
 -- 'the epoch is a nonzero multiple of the interval, the shard has a committee and no split, and rotations [in flight] number fewer than the limit'
 unfoldable pub mayRotate : Shard → Board → Bool
 mayRotate s b =
     not (eqb (epochOf b) 0)
-    && eqb (epochOf b % b .settings .interval) 0
-    && stands s (b .committees)
-    && not (reshapeAt split s b)
-    && ltb (inFlight s b) (b .settings .most)
+    and eqb (epochOf b % b .settings .interval) 0
+    and stands s (b .committees)
+    and not (reshapeAt split s b)
+    and ltb (inFlight s b) (b .settings .most)
 
 -- 8: 'the victim isn't seated there, or is already victim or entrant there'
 unfoldable pub victimFit : Shard → Id → Board → Bool
-victimFit s v b = says (isSeatedOn s) b v && not (isParty s v b)
+victimFit s v b = says (isSeatedOn s) b v and not (isParty s v b)
 
 abbrev pub newRotation : Shard → Id → Id → Board → Rotation
 newRotation s v x b = record { shard = s; victim = v; entrant = x; opened = epochOf b }
@@ -95,14 +95,14 @@ rotate s v draws b =
 
 -- 'those whose entrant was ready and seated there when the call began'
 unfoldable pub isResolved : Board → Rotation → Bool
-isResolved b r = says (isSeatedOn (r .shard)) b (r .entrant) && says isReady b (r .entrant)
+isResolved b r = says (isSeatedOn (r .shard)) b (r .entrant) and says isReady b (r .entrant)
 
 -- 'a committee there has at most S members plus one per rotation still open there'
 unfoldable pub hasSeatsFree : Shard → Board → Bool
 hasSeatsFree s b = holdsAt s (λ members. leb (length members) (sizeOf b + count (isOn s) (b .rotations))) (b .committees)
 
 abbrev pub isRotation : Shard → Id → Rotation → Bool
-isRotation s v r = isOn s r && eqb (r .victim) v
+isRotation s v r = isOn s r and eqb (r .victim) v
 
 -- 'unless ... the victim is struck and, if seated there, pooled'
 unfoldable pub retire : Shard → Id → Board → Board

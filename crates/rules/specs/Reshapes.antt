@@ -2,14 +2,14 @@
 use Prim.Native.Nat.{ℕ, _+_, _/_}
 use mathlib.Core.List.{List, [], _∷_, _++_}
 use mathlib.Core.Option.{Option, none, some}
-use mathlib.Core.Bool.{Bool, true, false, not, _&&_, _||_}
+use mathlib.Core.Bool.{Bool, true, false, not}
 use lib.Dec.{eqb, leb, ltb}
 use lib.ListN.{length, take, drop}
 use Rattle.types.specs.Numbers.{Shard, Id}
 use Rattle.types.specs.Shards.{leftOf, rightOf}
 use Rattle.types.specs.Places.{isSeatedOn, observes, isReady}
 use Rattle.types.specs.declared.Answer.the-variants.{OutOfRange, NoBoundary, NotThere, FamilyTaken, NoRoom, PoolTooSmall}
-use Rattle.rules.specs.Lists.{any, count, keep, isEmpty, sort}
+use Rattle.rules.specs.Lists.{_and_, _or_, any, count, keep, isEmpty, sort}
 use Rattle.rules.specs.Table.{Table, at, stands, holdsAt, put, update, keysOf, isSome}
 use Rattle.rules.specs.Board.{Kind, split, merge, Seat, Reshape, Board, mostReshapes, onReshapes, epochOf, sizeOf}
 use Rattle.rules.specs.WellFormed.{isTarget}
@@ -36,7 +36,7 @@ unfoldable pub admissionFaults : Kind → Shard → Board → List Fault
 admissionFaults k t b =
     unlessWellFormed b
     ∷ unlessTarget t
-    ∷ not (familyFree t b && committeesFit k t b) gives FamilyTaken
+    ∷ not (familyFree t b and committeesFit k t b) gives FamilyTaken
     ∷ not (boundsStand k t b) gives NoBoundary
     ∷ []
 
@@ -55,8 +55,8 @@ admitSplit t b = alone [] b (checked (admissionFaults split t b) (admit split t 
 
 -- KEEPERS: 'per child: committee members seated there, ready ones, then waiting ones'
 unfoldable pub seatedMembers : Bool → Shard → Board → List Id
-seatedMembers true c b = keep (λ x. says (isSeatedOn c) b x && says isReady b x) (membersOf c b)
-seatedMembers false c b = keep (λ x. says (isSeatedOn c) b x && not (says isReady b x)) (membersOf c b)
+seatedMembers true c b = keep (λ x. says (isSeatedOn c) b x and says isReady b x) (membersOf c b)
+seatedMembers false c b = keep (λ x. says (isSeatedOn c) b x and not (says isReady b x)) (membersOf c b)
 
 -- 'each sorted and shuffled; ready first, waiting only to fill'
 unfoldable pub keepersOf : Shard → ℕ → Board → List ℕ → Drawn (List Id)
@@ -101,11 +101,11 @@ markSeatReady t x b =
 
 -- 'a split has side 0 only'
 unfoldable pub hasSide : Shard → ℕ → Board → Bool
-hasSide t side b = holdsAt t (λ r. eqb side 0 || isKind merge r) (b .reshapes)
+hasSide t side b = holdsAt t (λ r. eqb side 0 or isKind merge r) (b .reshapes)
 
 -- quiet on side 0, or on side 1
 unfoldable pub quieted : ℕ → Reshape → Reshape
-quieted side = withQuiet (λ q. q || eqb side 0) (λ q. q || eqb side 1)
+quieted side = withQuiet (λ q. q or eqb side 0) (λ q. q or eqb side 1)
 
 unfoldable pub markQuiet : Shard → ℕ → Board → Result
 markQuiet t side b =
@@ -117,7 +117,7 @@ markQuiet t side b =
 
 -- 'needs an unscheduled split with an empty cohort'
 unfoldable pub awaitsCohort : Reshape → Bool
-awaitsCohort r = isKind split r && not (isSome (r .terminal)) && isEmpty (r .seats)
+awaitsCohort r = isKind split r and not (isSome (r .terminal)) and isEmpty (r .seats)
 
 -- 'those at i below S/2 rounded up go left, the rest right'
 unfoldable pub watchAll : Shard → List Id → Board → Board

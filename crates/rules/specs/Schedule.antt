@@ -2,14 +2,14 @@
 use Prim.Native.Nat.{ℕ, _+_}
 use mathlib.Core.List.{List, [], _∷_}
 use mathlib.Core.Option.{Option, none, some}
-use mathlib.Core.Bool.{Bool, true, false, cond, not, _&&_}
+use mathlib.Core.Bool.{Bool, true, false, cond, not}
 use lib.Dec.{eqb, leb}
 use lib.ListN.{length, take, drop}
 use Rattle.types.specs.Numbers.{Shard, Id, Epoch}
 use Rattle.types.specs.Shards.{leftOf, rightOf, quorum}
 use Rattle.types.specs.Places.{isSeatedOn, isReady}
 use Rattle.types.specs.declared.Answer.the-variants.{NoBoundary}
-use Rattle.rules.specs.Lists.{count, keep, sort}
+use Rattle.rules.specs.Lists.{_and_, count, keep, sort}
 use Rattle.rules.specs.Table.{at, update, keysWhere, countWhere, isSome}
 use Rattle.rules.specs.Board.{Kind, split, merge, Reshape, Board, onBounds, onReshapes, epochOf, sizeOf}
 use Rattle.rules.specs.Draws.{shuffle}
@@ -19,11 +19,11 @@ use Rattle.rules.specs.Reshapes.{halfUp}
 
 -- 'unscheduled ones, rising'
 unfoldable pub unscheduled : Kind → Board → List Shard
-unscheduled k b = keysWhere (λ r. isKind k r && not (isSome (r .terminal))) (b .reshapes)
+unscheduled k b = keysWhere (λ r. isKind k r and not (isSome (r .terminal))) (b .reshapes)
 
 -- a split says quiet on its one side, a merge on both
 unfoldable pub isQuiet : Reshape → Bool
-isQuiet r = elim (r .kind) [ split ↦ r .quietLeft | merge ↦ r .quietLeft && r .quietRight ]
+isQuiet r = elim (r .kind) [ split ↦ r .quietLeft | merge ↦ r .quietLeft and r .quietRight ]
 
 -- 'the terminal is epoch plus one, halves are stored, and the boundary gets the terminal and the admitted epoch'
 unfoldable pub scheduled : Shard → Reshape → List Id → List Id → Board → Board
@@ -47,11 +47,11 @@ seatedThere t b = sort (keep (says (isSeatedOn t) b) (membersOf t b))
 
 -- ready members of a half plus ready seats of its child
 unfoldable pub readyFor : Shard → List Id → Reshape → Board → ℕ
-readyFor c half r b = count (says isReady b) half + countWhere (λ q. eqb (q .child) c && q .ready) (r .seats)
+readyFor c half r b = count (says isReady b) half + countWhere (λ q. eqb (q .child) c and q .ready) (r .seats)
 
 -- 'each half's ready members plus that child's ready seats must reach quorum'
 unfoldable pub splitGate : Shard → List Id → List Id → Reshape → Board → Bool
-splitGate t left right r b = leb (quorum (sizeOf b)) (readyFor (leftOf t) left r b) && leb (quorum (sizeOf b)) (readyFor (rightOf t) right r b)
+splitGate t left right r b = leb (quorum (sizeOf b)) (readyFor (leftOf t) left r b) and leb (quorum (sizeOf b)) (readyFor (rightOf t) right r b)
 
 -- 'draws and aborts stand even where the gate fails'
 unfoldable pub passGate : Shard → List Id → List Id → List ℕ → Board → Turn

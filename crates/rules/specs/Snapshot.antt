@@ -2,7 +2,7 @@
 use Prim.Native.Nat.{ℕ, zero, suc, _+_, _*_, _/_, _%_, min}
 use mathlib.Core.List.{List, [], _∷_, _++_}
 use mathlib.Core.Option.{Option, none, some}
-use mathlib.Core.Bool.{Bool, true, false, cond, _&&_}
+use mathlib.Core.Bool.{Bool, true, false, cond}
 use lib.Dec.{eqb}
 use lib.ListN.{length, take, drop}
 use Rattle.types.specs.Numbers.{Id, Epoch}
@@ -11,7 +11,7 @@ use Rattle.types.specs.declared.Place.{Place}
 use Rattle.types.specs.declared.Place.the-variants.{Pooled, Seated, Observing, Short, Other}
 use Rattle.types.specs.declared.Answer.{Answer}
 use Rattle.types.specs.declared.Answer.the-variants.{Done, NotASnapshot}
-use Rattle.rules.specs.Lists.{bitOf, same}
+use Rattle.rules.specs.Lists.{_and_, bitOf, same}
 use Rattle.rules.specs.Table.{Entry, entry}
 use Rattle.rules.specs.Board.{Settings, Boundary, Rotation, Kind, split, merge, Seat, Reshape, Board, mostMachines, mostCommittees, mostMembers, mostBounds, mostRotations, mostReshapes, mostSeats, mostHalf}
 use Rattle.rules.specs.WellFormed.{wellFormed}
@@ -238,7 +238,7 @@ readBoard = do
 
 -- the well-formed board that has these words, 'and no more'; none: 13
 unfoldable pub boardOf : List ℕ → Option Board
-boardOf ws = let b = readBoard ws .0 in cond (wellFormed b && same (wordsOf b) ws) (some b) none
+boardOf ws = let b = readBoard ws .0 in cond (wellFormed b and same (wordsOf b) ws) (some b) none
 
 -- ---- '8-byte little-endian words'
 

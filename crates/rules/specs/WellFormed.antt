@@ -2,19 +2,19 @@
 use Prim.Native.Nat.{ℕ, _+_, _*_}
 use mathlib.Core.List.{List, [], _∷_}
 use mathlib.Core.Option.{Option, none, some}
-use mathlib.Core.Bool.{Bool, true, false, not, _&&_, _||_}
+use mathlib.Core.Bool.{Bool, true, false, not}
 use lib.Dec.{eqb, leb, ltb}
 use lib.ListN.{length}
 use Rattle.types.specs.Numbers.{Shard, Id, Epoch}
 use Rattle.types.specs.Shards.{leftOf, rightOf}
 use Rattle.types.specs.declared.Place.{Place}
 use Rattle.types.specs.declared.Place.the-variants.{Pooled, Seated, Observing, Short, Other}
-use Rattle.rules.specs.Lists.{allOf, every, isEmpty, distinct}
+use Rattle.rules.specs.Lists.{_and_, _or_, allOf, every, isEmpty, distinct}
 use Rattle.rules.specs.Table.{Entry, Table}
 use Rattle.rules.specs.Board.{Settings, Boundary, Rotation, Kind, split, merge, Seat, Reshape, Board, mostMachines, mostCommittees, mostMembers, mostBounds, mostRotations, mostReshapes, mostSeats, mostHalf, lastEpoch, lastStamp, lastShard, lastTarget, lastWord}
 
 abbrev pub within : ℕ → ℕ → ℕ → Bool
-within low high n = leb low n && leb n high
+within low high n = leb low n and leb n high
 
 abbrev pub isShard : Shard → Bool
 isShard = within 1 lastShard
@@ -32,7 +32,7 @@ isStamp e = leb e lastStamp
 unfoldable pub rising : {A : Type 0} → (A → A → Bool) → List A → Bool
 rising before [] = true
 rising before (x ∷ []) = true
-rising before (x ∷ y ∷ l) = before x y && rising before (y ∷ l)
+rising before (x ∷ y ∷ l) = before x y and rising before (y ∷ l)
 
 abbrev pub keyBefore : {A : Type 0} → Entry A → Entry A → Bool
 keyBefore d e = ltb (d .key) (e .key)
@@ -68,16 +68,16 @@ goodSettings s =
 -- 'pooled, seated (shard, ready or waiting, stamp), observing (shard, stamp), short of stake, or other with a mark 1 to 255'
 unfoldable pub goodPlace : Place → Bool
 goodPlace Pooled = true
-goodPlace (Seated s r w) = isShard (s .0) && isStamp (w .0)
-goodPlace (Observing s w) = isShard (s .0) && isStamp (w .0)
+goodPlace (Seated s r w) = isShard (s .0) and isStamp (w .0)
+goodPlace (Observing s w) = isShard (s .0) and isStamp (w .0)
 goodPlace Short = true
 goodPlace (Other m) = within 1 255 m
 
 unfoldable pub goodMachine : Entry Place → Bool
-goodMachine e = isWord (e .key) && goodPlace (e .val)
+goodMachine e = isWord (e .key) and goodPlace (e .val)
 
 unfoldable pub goodCommittee : Entry (List Id) → Bool
-goodCommittee e = isShard (e .key) && goodIds mostMembers (e .val)
+goodCommittee e = isShard (e .key) and goodIds mostMembers (e .val)
 
 unfoldable pub goodBoundary : Entry Boundary → Bool
 goodBoundary e =
@@ -95,11 +95,11 @@ goodRotation r = allOf (isShard (r .shard) ∷ isWord (r .victim) ∷ isWord (r 
 
 -- 'rotations by shard then victim'
 unfoldable pub rotationBefore : Rotation → Rotation → Bool
-rotationBefore q r = ltb (q .shard) (r .shard) || (eqb (q .shard) (r .shard) && ltb (q .victim) (r .victim))
+rotationBefore q r = ltb (q .shard) (r .shard) or (eqb (q .shard) (r .shard) and ltb (q .victim) (r .victim))
 
 -- 'a seat's child is a child of its target'
 unfoldable pub goodSeat : Shard → Entry Seat → Bool
-goodSeat t e = isWord (e .key) && (eqb (e .val .child) (leftOf t) || eqb (e .val .child) (rightOf t))
+goodSeat t e = isWord (e .key) and (eqb (e .val .child) (leftOf t) or eqb (e .val .child) (rightOf t))
 
 -- 'quiet right (0 for a split)'
 unfoldable pub goodQuiet : Kind → Bool → Bool
@@ -123,7 +123,7 @@ goodReshape e =
     ∷ goodTable mostSeats (goodSeat (e .key)) (e .val .seats)
     ∷ goodIds mostHalf (e .val .left)
     ∷ goodIds mostHalf (e .val .right)
-    ∷ (mayHaveHalves (e .val .kind) (e .val .terminal) || (isEmpty (e .val .left) && isEmpty (e .val .right)))
+    ∷ (mayHaveHalves (e .val .kind) (e .val .terminal) or (isEmpty (e .val .left) and isEmpty (e .val .right)))
     ∷ [])
 
 unfoldable pub wellFormed : Board → Bool
