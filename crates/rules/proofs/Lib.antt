@@ -2,4 +2,4 @@ pub mod Computes
 pub mod Cases
 pub mod Counts
 pub mod Tables
-pub mod Reflect
+pub mod Tests

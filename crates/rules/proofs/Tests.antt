@@ -21,9 +21,9 @@ unfolding _and_
 and-parts true b h = (refl, h)
 and-parts false b h = absurd (false≢true h)
 
-pub and-join : (a b : Bool) → a ≡ true → b ≡ true → (a and b) ≡ true
+pub and-joins : (a b : Bool) → a ≡ true → b ≡ true → (a and b) ≡ true
 unfolding _and_
-and-join a b p q = rw (p, q)
+and-joins a b p q = rw (p, q)
 
 pub or-cases : (a b : Bool) → (a or b) ≡ true → (a ≡ true) ⊎ (b ≡ true)
 unfolding _or_
@@ -39,17 +39,20 @@ unfolding _or_
 or-right true b p = refl
 or-right false b p = p
 
-pub all-parts : (c : Bool) (cs : List Bool) → allOf (c ∷ cs) ≡ true → (c ≡ true) × (allOf cs ≡ true)
-unfolding allOf
-all-parts c cs h = and-parts _ _ h
+-- each of the tests says yes
+abbrev pub Yes : List Bool → Type 0
+Yes [] = Unit {0}
+Yes (c ∷ cs) = (c ≡ true) × Yes cs
 
-pub all-join : (c : Bool) (cs : List Bool) → c ≡ true → allOf cs ≡ true → allOf (c ∷ cs) ≡ true
+pub all-parts : (cs : List Bool) → allOf cs ≡ true → Yes cs
 unfolding allOf
-all-join c cs p q = and-join _ _ p q
+all-parts [] h = tt
+all-parts (c ∷ cs) h = let p = and-parts _ _ h in (p .0, all-parts cs (p .1))
 
-pub all-none : allOf [] ≡ true
+pub all-joins : (cs : List Bool) → Yes cs → allOf cs ≡ true
 unfolding allOf
-all-none = refl
+all-joins [] h = refl
+all-joins (c ∷ cs) h = and-joins _ _ (h .0) (all-joins cs (h .1))
 
 pub of-not : (c : Bool) → not c ≡ true → c ≡ false
 of-not true h = absurd (false≢true h)
@@ -84,7 +87,7 @@ module _ {A : Type 0} where
 
   pub every-join : (f : A → Bool) (x : A) (l : List A) → f x ≡ true → every f l ≡ true → every f (x ∷ l) ≡ true
   unfolding every
-  every-join f x l p q = and-join _ _ p q
+  every-join f x l p q = and-joins _ _ p q
 
   pub every-none : (f : A → Bool) → every f [] ≡ true
   unfolding every
@@ -94,8 +97,8 @@ module _ {A : Type 0} where
   every-append f [] m p q = q
   every-append f (x ∷ l) m p q = every-join _ _ _ (every-parts _ _ _ p .0) (every-append f l m (every-parts _ _ _ p .1) q)
 
-  -- what every element passes, each passes where it implies
-  pub every-weaken : (f g : A → Bool) → ((x : A) → f x ≡ true → g x ≡ true) → (l : List A) → every f l ≡ true → every g l ≡ true
+  -- a weaker test
+  pub every-weaken : (f g : A → Bool) → ((x : A) → g x ≡ true → f x ≡ true) → (l : List A) → every g l ≡ true → every f l ≡ true
   every-weaken f g h [] p = every-none _
   every-weaken f g h (x ∷ l) p = every-join _ _ _ (h x (every-parts _ _ _ p .0)) (every-weaken f g h l (every-parts _ _ _ p .1))
 
@@ -155,7 +158,7 @@ module _ {A : Type 0} where
   unfolding rising From
   from-rising n [] r = refl
   from-rising n (d ∷ []) r = refl
-  from-rising n (d ∷ e ∷ t) r = and-join _ _ (of-le _ _ (r .1 .0)) (from-rising (suc (d .key)) (e ∷ t) (r .1))
+  from-rising n (d ∷ e ∷ t) r = and-joins _ _ (of-le _ _ (r .1 .0)) (from-rising (suc (d .key)) (e ∷ t) (r .1))
 
   pub rising-table : (t : Table A) → rising keyBefore t ≡ true → From 0 t
   unfolding From
