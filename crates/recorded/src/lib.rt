@@ -1,0 +1,1 @@
+// Calls recorded from the original Rust, computed by the definitions; it holds no code.
