@@ -1,2 +1,4 @@
 pub mod Computes
 pub mod Cases
+pub mod Tests
+pub mod SnapshotEncodes
