@@ -25,10 +25,14 @@ abbrev pub Words : List ℕ → Type 0
 Words [] = Unit {0}
 Words (n ∷ ws) = (n ≤ lastWord) × Words ws
 
+pub words-cons : (n : ℕ) (ws : List ℕ) → n ≤ lastWord → every isWord ws ≡ true → every isWord (n ∷ ws) ≡ true
+unfolding every
+words-cons n ws p q = and-joins (isWord n) (every isWord ws) (le-leb n lastWord p) q
+
 pub are-words : (ws : List ℕ) → Words ws → every isWord ws ≡ true
 unfolding every
 are-words [] h = refl
-are-words (n ∷ ws) h = and-joins (isWord n) (every isWord ws) (le-leb n lastWord (h .0)) (are-words ws (h .1))
+are-words (n ∷ ws) h = words-cons n ws (h .0) (are-words ws (h .1))
 
 module _ {A : Type 0} {good : A → Bool} {row : A → List ℕ} {read : Reader A} {width : ℕ} (r : Encodes good row read width) where
   rows-back : (l : List A) → every good l ≡ true → (rest : List ℕ) → readRows read (length l) (rowsWords row l ++ rest) ≡ (l, rest)
@@ -53,13 +57,11 @@ module _ {A : Type 0} {good : A → Bool} {row : A → List ℕ} {read : Reader 
   -- 'these sections, each after its count', where a list that is ok has good rows and no more than the most
   pub section-encodes : (most : ℕ) (ok : List A → Bool) → most ≤ lastWord → ((l : List A) → ok l ≡ true → (length l ≤ most) × (every good l ≡ true))
       → Encodes ok (section row) (readSection most read) (1 + most * width)
-  unfolding section readSection word every
+  unfolding section readSection word
   section-encodes most ok small parts =
       record {
         back = λ l h rest. let p = parts l h in rw (min-eq-left (p .0)) (rows-back l (p .1) rest);
-        words = λ l h.
-            let p = parts l h in
-            and-joins (isWord (length l)) (every isWord (rowsWords row l)) (le-leb (length l) lastWord (omega arith)) (rows-words l (p .1));
+        words = λ l h. let p = parts l h in words-cons (length l) (rowsWords row l) (omega arith) (rows-words l (p .1));
         short = λ l h. let p = parts l h in omega (arith, rows-short l (p .1), mul-le-mul-right width (p .0));
       }
 
