@@ -3,3 +3,5 @@ pub mod Cases
 pub mod Tests
 pub mod SnapshotEncodes
 pub mod SnapshotRows
+pub mod SnapshotBytes
+pub mod Snapshot
