@@ -1,5 +1,5 @@
 -- The snapshot says the board, no more and no less, and has a largest size.
-use Prim.Native.Nat.{ℕ, _≤_}
+use Prim.Native.Nat.{ℕ, _/_, _≤_}
 use mathlib.Core.Path.{_≡_, refl, ap, sym, _∙_}
 use mathlib.Core.List.{List, [], append-nil}
 use mathlib.Core.Option.{Option, none, some, Option·none-ne-some}
@@ -12,7 +12,7 @@ use Rattle.rules.specs.WellFormed.{isWord, wellFormed}
 use Rattle.rules.specs.Snapshot.{wordsOf, readBoard, boardOf, bytesOf, wordsOfBytes, snapshotOf, readSnapshot}
 use Rattle.rules.proofs.Tests.{and-parts, same-refl, same-true, given-if}
 use Rattle.rules.proofs.SnapshotRows.{board-encodes}
-use Rattle.rules.proofs.SnapshotBytes.{isByte, bytes-length, bytes-are-bytes, bytes-read-back, words-read-write}
+use Rattle.rules.proofs.SnapshotBytes.{isByte, bytes-length, bytes-are-bytes, words-back}
 
 -- ---- words
 
@@ -20,7 +20,7 @@ use Rattle.rules.proofs.SnapshotBytes.{isByte, bytes-length, bytes-are-
 pub words-read-back : (b : Board) → wellFormed b ≡ true → boardOf (wordsOf b) ≡ some b
 unfolding boardOf
 words-read-back b h =
-    let e : readBoard (wordsOf b) .0 ≡ b = ap (λ r. r .0) (rw append-nil at (board-encodes .back b h [])) in
+    let e = rw append-nil at (board-encodes b h .back []) in
     rw (e, h, same-refl)
 
 -- words that read as a board are that board's, and it is well-formed
@@ -33,7 +33,7 @@ board-read-writes ws b h =
 
 -- every word of a well-formed board is a 64-bit number
 pub words-are-words : (b : Board) → wellFormed b ≡ true → every isWord (wordsOf b) ≡ true
-words-are-words b h = board-encodes .words b h
+words-are-words b h = board-encodes b h .words
 
 -- well-formed boards with the same words are one board
 pub same-words-same-board : (a b : Board) → wellFormed a ≡ true → wellFormed b ≡ true → wordsOf a ≡ wordsOf b → a ≡ b
@@ -41,12 +41,24 @@ same-words-same-board a b p q e = let r = words-read-back a p in let s = words-r
 
 -- ---- bytes
 
--- a well-formed board's snapshot reads back to it
+-- words' bytes read back to them
+pub bytes-read-back : (ws : List ℕ) → every isWord ws ≡ true → wordsOfBytes (bytesOf ws) ≡ some ws
+unfolding wordsOfBytes
+bytes-read-back ws h =
+    let n : length (bytesOf ws) / 8 ≡ length ws = omega (arith, bytes-length ws) in
+    rw (n, words-back ws h, same-refl)
+
+-- bytes that read as words are the bytes of those words
+pub words-read-write : (bytes ws : List ℕ) → wordsOfBytes bytes ≡ some ws → bytes ≡ bytesOf ws
+unfolding wordsOfBytes
+words-read-write bytes ws h = let p = given-if _ _ _ h in sym (same-true _ _ (p .0)) ∙ ap bytesOf (p .1)
+
+-- 'a snapshot reads back as the board written'
 pub snapshot-reads-back : (b : Board) → wellFormed b ≡ true → readSnapshot (snapshotOf b) ≡ some b
 unfolding readSnapshot snapshotOf
 snapshot-reads-back b h = rw (bytes-read-back (wordsOf b) (words-are-words b h), readSnapshot) (words-read-back b h)
 
--- bytes that read as a board are that board's snapshot, and it is well-formed
+-- 'and a board read writes the same bytes': what reads is a well-formed board's snapshot
 pub snapshot-read-writes : (bytes : List ℕ) (b : Board) → readSnapshot bytes ≡ some b → (bytes ≡ snapshotOf b) × (wellFormed b ≡ true)
 unfolding readSnapshot snapshotOf
 snapshot-read-writes bytes b h = go (wordsOfBytes bytes) refl h
@@ -61,10 +73,10 @@ same-bytes-same-board a b p q e = let r = snapshot-reads-back a p in let s = sna
 
 -- ---- size
 
--- a well-formed board's snapshot has at most 46,816 bytes
+-- 'at most 46,816 bytes'
 pub snapshot-most : (b : Board) → wellFormed b ≡ true → length (snapshotOf b) ≤ 46816
 unfolding snapshotOf
-snapshot-most b h = omega (arith, bytes-length (wordsOf b), board-encodes .short b h)
+snapshot-most b h = omega (arith, bytes-length (wordsOf b), board-encodes b h .short)
 
 -- every element of a snapshot is below 256
 pub snapshot-is-bytes : (b : Board) → every isByte (snapshotOf b) ≡ true

@@ -1,18 +1,17 @@
 -- '8-byte little-endian words': bytes that read back.
-use Prim.Native.Nat.{ℕ, zero, suc, _+_, _*_, _/_, _%_, _^_, _≤_, _<_}
-use mathlib.Core.Path.{_≡_, refl, ap, sym, _∙_}
+use Prim.Native.Nat.{ℕ, zero, suc, _+_, _*_, _/_, _%_, _^_, _<_}
+use mathlib.Core.Path.{_≡_, refl, ap}
 use mathlib.Core.List.{List, [], _∷_, _++_}
-use mathlib.Core.Option.{Option, none, some}
 use mathlib.Core.Bool.{Bool, true, false}
 use native.Mathlib.Omega.{arith}
 use borrow.Author.Tests.{leb-true, lt-ltb}
-use lib.Dec.{leb, ltb}
+use lib.Dec.{ltb}
 use lib.ListN.{length, take, drop, length-append}
 use lib.Seq.{take-at, drop-at}
-use Rattle.rules.specs.Lists.{every, same}
+use Rattle.rules.specs.Lists.{every}
 use Rattle.rules.specs.WellFormed.{isWord}
-use Rattle.rules.specs.Snapshot.{rowsWords, digits, bytesOf, valueOfBytes, readWords, wordsOfBytes}
-use Rattle.rules.proofs.Tests.{and-joins, every-parts, every-append, same-refl, same-true, given-if}
+use Rattle.rules.specs.Snapshot.{rowsWords, digits, bytesOf, valueOfBytes, readWords}
+use Rattle.rules.proofs.Tests.{and-joins, every-parts, every-append}
 
 abbrev pub isByte : ℕ → Bool
 isByte n = ltb n 256
@@ -42,24 +41,10 @@ unfolding bytesOf rowsWords every
 bytes-are-bytes [] = refl
 bytes-are-bytes (w ∷ ws) = every-append isByte (digits 8 w) (bytesOf ws) (digits-bytes 8 w) (bytes-are-bytes ws)
 
-words-back : (ws : List ℕ) → every isWord ws ≡ true → readWords (length ws) (bytesOf ws) ≡ ws
+pub words-back : (ws : List ℕ) → every isWord ws ≡ true → readWords (length ws) (bytesOf ws) ≡ ws
 unfolding bytesOf rowsWords readWords
 words-back [] h = refl
 words-back (w ∷ ws) h =
     let p = every-parts isWord w ws h in
     let small : w < 256 ^ 8 = omega (arith, leb-true) in
     rw (take-at (digits 8 w) (bytesOf ws) 8 (digits-length 8 w), drop-at (digits 8 w) (bytesOf ws) 8 (digits-length 8 w), digits-value 8 w small, words-back ws (p .1))
-
--- words' bytes read back to them
-pub bytes-read-back : (ws : List ℕ) → every isWord ws ≡ true → wordsOfBytes (bytesOf ws) ≡ some ws
-unfolding wordsOfBytes
-bytes-read-back ws h =
-    let n : length (bytesOf ws) / 8 ≡ length ws = omega (arith, bytes-length ws) in
-    rw (n, words-back ws h, same-refl)
-
--- bytes that read as words are the bytes of those words
-pub words-read-write : (bytes ws : List ℕ) → wordsOfBytes bytes ≡ some ws → bytes ≡ bytesOf ws
-unfolding wordsOfBytes
-words-read-write bytes ws h =
-    let p = given-if _ _ _ h in
-    sym (same-true _ _ (p .0)) ∙ ap bytesOf (p .1)
