@@ -64,20 +64,21 @@ committee-encodes : Encodes goodCommittee committeeWords readCommittee 98
 unfolding goodCommittee committeeWords readCommittee
 committee-encodes e h =
     let p = and-parts (isShard (e .key)) (goodIds mostMembers (e .val)) h in
-    made (λ t. entry (t .0) (t .1)) refl (one (e .key) (omega (arith, within-high)) then ids-encode mostMembers (omega arith) (e .val) (p .1))
+    made (λ (shard, members). entry shard members) refl (one (e .key) (omega (arith, within-high)) then ids-encode mostMembers (omega arith) (e .val) (p .1))
 
 boundary-encodes : Encodes goodBoundary boundaryWords readBoundary 8
 unfolding goodBoundary boundaryWords readBoundary
 boundary-encodes e h =
     let p = all-parts _ h in
-    made (λ t. entry (t .0) (record { height = t .1 .0; formed = t .1 .1 .0; lastLive = t .1 .1 .1 .0; terminal = t .1 .1 .1 .1 .0; admitted = t .1 .1 .1 .1 .1 }))
+    made
+    (λ (shard, (height, (formed, (lastLive, (terminal, admitted))))). entry shard (record { height = height; formed = formed; lastLive = lastLive; terminal = terminal; admitted = admitted }))
     refl
     (one (e .key) (omega (arith, within-high))
     then one (e .val .height) (omega (arith, leb-true))
     then one (e .val .formed) (omega (arith, leb-true))
     then one (e .val .lastLive) (omega (arith, leb-true))
-    then option-reads (e .val .terminal) (p .1 .1 .1 .1 .0)
-    then option-reads (e .val .admitted) (p .1 .1 .1 .1 .1 .0))
+    then option-reads (e .val .terminal) (search)
+    then option-reads (e .val .admitted) (search))
 
 rotation-encodes : Encodes goodRotation rotationWords readRotation 4
 unfolding goodRotation rotationWords readRotation word
@@ -95,35 +96,36 @@ seat-encodes : (t : Shard) → t ≤ lastTarget → Encodes (goodSeat t) seatWor
 unfolding goodSeat seatWords readSeat
 seat-encodes t small e h =
     let p = and-parts (isWord (e .key)) _ h in
-    made (λ t. entry (t .0) (record { child = t .1 .0; ready = t .1 .1 })) refl
+    made (λ (id, (child, ready)). entry id (record { child = child; ready = ready })) refl
     (one (e .key) (leb-true _ _ (p .0)) then one (e .val .child) (child-most t (e .val .child) small (p .1)) then bit-reads (e .val .ready))
 
 reshape-encodes : Encodes goodReshape reshapeWords readReshape 204
 unfolding goodReshape reshapeWords readReshape
 reshape-encodes e h =
     let p = all-parts _ h in
-    made (λ t. entry (t .0) (record {
-      kind = t .1 .0;
-      admitted = t .1 .1 .0;
-      drainBy = t .1 .1 .1 .0;
-      terminal = t .1 .1 .1 .1 .0;
-      quietLeft = t .1 .1 .1 .1 .1 .0;
-      quietRight = t .1 .1 .1 .1 .1 .1 .0;
-      seats = t .1 .1 .1 .1 .1 .1 .1 .0;
-      left = t .1 .1 .1 .1 .1 .1 .1 .1 .0;
-      right = t .1 .1 .1 .1 .1 .1 .1 .1 .1;
+    made
+    (λ (target, (kind, (admitted, (drainBy, (terminal, (quietLeft, (quietRight, (seats, (left, right))))))))). entry target (record {
+      kind = kind;
+      admitted = admitted;
+      drainBy = drainBy;
+      terminal = terminal;
+      quietLeft = quietLeft;
+      quietRight = quietRight;
+      seats = seats;
+      left = left;
+      right = right;
     }))
     refl
     (one (e .key) (omega (arith, within-high))
     then kind-reads (e .val .kind)
     then one (e .val .admitted) (omega (arith, leb-true))
-    then option-reads (e .val .drainBy) (p .1 .1 .0)
-    then option-reads (e .val .terminal) (p .1 .1 .1 .0)
+    then option-reads (e .val .drainBy) (search)
+    then option-reads (e .val .terminal) (search)
     then bit-reads (e .val .quietLeft)
     then bit-reads (e .val .quietRight)
-    then list-encodes (seat-encodes (e .key) (within-high _ _ _ (p .0))) mostSeats keyBefore (omega arith) (e .val .seats) (p .1 .1 .1 .1 .1 .0)
-    then ids-encode mostHalf (omega arith) (e .val .left) (p .1 .1 .1 .1 .1 .1 .0)
-    then ids-encode mostHalf (omega arith) (e .val .right) (p .1 .1 .1 .1 .1 .1 .1 .0))
+    then list-encodes (seat-encodes (e .key) (within-high _ _ _ (p .0))) mostSeats keyBefore (omega arith) (e .val .seats) (search)
+    then ids-encode mostHalf (omega arith) (e .val .left) (search)
+    then ids-encode mostHalf (omega arith) (e .val .right) (search))
 
 -- ---- the board
 
@@ -131,11 +133,13 @@ pub board-encodes : Encodes wellFormed wordsOf readBoard 5852
 unfolding wellFormed wordsOf readBoard
 board-encodes b h =
     let p = all-parts _ h in
-    made (λ t. record { settings = t .0; machines = t .1 .0; committees = t .1 .1 .0; bounds = t .1 .1 .1 .0; rotations = t .1 .1 .1 .1 .0; reshapes = t .1 .1 .1 .1 .1 })
+    made
+    (λ (settings, (machines, (committees, (bounds, (rotations, reshapes))))).
+    record { settings = settings; machines = machines; committees = committees; bounds = bounds; rotations = rotations; reshapes = reshapes })
     refl
-    (settings-encode (b .settings) (p .0)
-    then list-encodes machine-encodes mostMachines keyBefore (omega arith) (b .machines) (p .1 .0)
-    then list-encodes committee-encodes mostCommittees keyBefore (omega arith) (b .committees) (p .1 .1 .0)
-    then list-encodes boundary-encodes mostBounds keyBefore (omega arith) (b .bounds) (p .1 .1 .1 .0)
-    then list-encodes rotation-encodes mostRotations rotationBefore (omega arith) (b .rotations) (p .1 .1 .1 .1 .0)
-    then list-encodes reshape-encodes mostReshapes keyBefore (omega arith) (b .reshapes) (p .1 .1 .1 .1 .1 .0))
+    (settings-encode (b .settings) (search)
+    then list-encodes machine-encodes mostMachines keyBefore (omega arith) (b .machines) (search)
+    then list-encodes committee-encodes mostCommittees keyBefore (omega arith) (b .committees) (search)
+    then list-encodes boundary-encodes mostBounds keyBefore (omega arith) (b .bounds) (search)
+    then list-encodes rotation-encodes mostRotations rotationBefore (omega arith) (b .rotations) (search)
+    then list-encodes reshape-encodes mostReshapes keyBefore (omega arith) (b .reshapes) (search))
