@@ -3,7 +3,7 @@ use Prim.Native.Nat.{ℕ, _/_, _≤_}
 use mathlib.Core.Path.{_≡_, refl, ap, sym, _∙_}
 use mathlib.Core.List.{List, [], append-nil}
 use mathlib.Core.Option.{Option, none, some, Option·none-ne-some}
-use mathlib.Core.Bool.{Bool, true, false}
+use mathlib.Core.Bool.{true}
 use native.Mathlib.Omega.{arith}
 use lib.ListN.{length}
 use Rattle.rules.specs.Lists.{every}
@@ -19,9 +19,7 @@ use Rattle.rules.proofs.SnapshotBytes.{isByte, bytes-length, bytes-are-
 -- a well-formed board's words read back to it
 pub words-read-back : (b : Board) → wellFormed b ≡ true → boardOf (wordsOf b) ≡ some b
 unfolding boardOf
-words-read-back b h =
-    let e = rw append-nil at (board-encodes b h .back []) in
-    rw (e, h, same-refl)
+words-read-back b h = let e = rw append-nil at (board-encodes b h .back []) in rw (e, h, same-refl)
 
 -- words that read as a board are that board's, and it is well-formed
 pub board-read-writes : (ws : List ℕ) (b : Board) → boardOf ws ≡ some b → (ws ≡ wordsOf b) × (wellFormed b ≡ true)

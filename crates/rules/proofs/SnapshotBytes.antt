@@ -1,12 +1,12 @@
 -- '8-byte little-endian words': bytes that read back.
-use Prim.Native.Nat.{ℕ, zero, suc, _+_, _*_, _/_, _%_, _^_, _<_}
+use Prim.Native.Nat.{ℕ, zero, suc, _*_, _/_, _%_, _^_, _<_}
 use mathlib.Core.Path.{_≡_, refl, ap}
-use mathlib.Core.List.{List, [], _∷_, _++_}
-use mathlib.Core.Bool.{Bool, true, false}
+use mathlib.Core.List.{List, [], _∷_}
+use mathlib.Core.Bool.{Bool, true}
 use native.Mathlib.Omega.{arith}
 use borrow.Author.Tests.{leb-true, lt-ltb}
 use lib.Dec.{ltb}
-use lib.ListN.{length, take, drop, length-append}
+use lib.ListN.{length, length-append}
 use lib.Seq.{take-at, drop-at}
 use Rattle.rules.specs.Lists.{every}
 use Rattle.rules.specs.WellFormed.{isWord}
@@ -21,6 +21,7 @@ unfolding digits
 digits-length zero n = refl
 digits-length (suc k) n = ap suc (digits-length k (n / 256))
 
+-- k digits say any number below 256 ^ k
 digits-value : (k n : ℕ) → n < 256 ^ k → valueOfBytes (digits k n) ≡ n
 unfolding digits valueOfBytes
 digits-value zero n h = omega arith

@@ -1,8 +1,8 @@
 -- Words that read back: one after another, and section by section.
-use Prim.Native.Nat.{ℕ, zero, suc, _+_, _*_, _≤_, min}
+use Prim.Native.Nat.{ℕ, _+_, _*_, _≤_}
 use mathlib.Core.Path.{_≡_, refl}
 use mathlib.Core.List.{List, [], _∷_, _++_, append-assoc}
-use mathlib.Core.Bool.{Bool, true, false}
+use mathlib.Core.Bool.{Bool, true}
 use native.Mathlib.Omega.{arith}
 use native.Mathlib.Nat.{mul-le-mul-right, min-eq-left}
 use borrow.Author.Tests.{leb-true, le-leb}
@@ -33,14 +33,16 @@ unfolding every
 are-words [] h = refl
 are-words (n ∷ ws) h = and-joins (isWord n) (every isWord ws) (le-leb n lastWord (h .0)) (are-words ws (h .1))
 
--- a row of a fixed width
-pub flat : {A : Type 0} {read : Reader A} {x : A} (ws : List ℕ) → ((rest : List ℕ) → read (ws ++ rest) ≡ (x, rest)) → Words ws → Reads read x ws (length ws)
-flat ws b h = record { back = b; words = are-words ws h; short = omega arith }
+-- a row whose words are all there to see: reading computes, and the rest is arithmetic
+pub flat : {A : Type 0} {read : Reader A} {x : A} {w : ℕ} (ws : List ℕ) → ((rest : List ℕ) → read (ws ++ rest) ≡ (x, rest)) → Words ws × (length ws ≤ w) → Reads read x ws w
+flat ws b h = record { back = b; words = are-words ws (h .0); short = h .1 }
 
+-- a single word
 pub one : (n : ℕ) → n ≤ lastWord → Reads word n (n ∷ []) 1
 unfolding word
-one n h = flat (n ∷ []) (λ rest. refl) (h, tt)
+one n h = flat (n ∷ []) (λ rest. refl) (omega arith)
 
+-- two values, one after the other
 infixr 20 _then_
 pub _then_ : {A B : Type 0} {d : Reader A} {e : Reader B} {x : A} {y : B} {ws vs : List ℕ} {w v : ℕ}
     → Reads d x ws w → Reads e y vs v → Reads {A = A × B} (do a ← d; b ← e; give (a, b)) (x, y) (ws ++ vs) (w + v)
@@ -50,7 +52,7 @@ _then_ {ws} {vs} p q = record {
   short = omega (arith, length-append ws vs, p .short, q .short);
 }
 
--- what is read, made into something else
+-- what is read, made into what it says
 pub made : {A B : Type 0} {d : Reader A} {x : A} {y : B} {ws : List ℕ} {w : ℕ} (f : A → B) → f x ≡ y → Reads d x ws w → Reads (do a ← d; give (f a)) y ws w
 made f e r = record { back = λ rest. rw (r .back rest, e); words = r .words; short = r .short }
 

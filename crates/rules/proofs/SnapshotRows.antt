@@ -1,9 +1,9 @@
 -- Each section's rows read back, and so does a board.
-use Prim.Native.Nat.{ℕ, _+_, _*_, _≤_}
+use Prim.Native.Nat.{ℕ, _≤_}
 use mathlib.Core.Path.{_≡_, refl}
-use mathlib.Core.List.{List, [], _∷_}
+use mathlib.Core.List.{[], _∷_}
 use mathlib.Core.Option.{Option, none, some}
-use mathlib.Core.Bool.{Bool, true, false, cond, _||_}
+use mathlib.Core.Bool.{Bool, true, false, cond, _&&_, _||_}
 use native.Mathlib.Omega.{arith}
 use borrow.Author.Tests.{leb-true, eqb-true}
 use lib.Dec.{eqb, leb}
@@ -12,10 +12,10 @@ use Rattle.types.specs.Shards.{leftOf, rightOf}
 use Rattle.types.specs.declared.Place.{Place}
 use Rattle.types.specs.declared.Place.the-variants.{Pooled, Seated, Observing, Short, Other}
 use Rattle.rules.specs.Lists.{bitOf}
-use Rattle.rules.specs.Table.{Entry, entry}
-use Rattle.rules.specs.Board.{Settings, Boundary, Rotation, Kind, split, merge, Seat, Reshape, Board, mostMachines, mostCommittees, mostMembers, mostBounds, mostRotations, mostReshapes, mostSeats, mostHalf, lastTarget, lastWord}
-use Rattle.rules.specs.WellFormed.{within, isWord, isShard, isStamp, keyBefore, rotationBefore, goodList, goodTable, goodIds, goodOption, goodSettings, goodPlace, goodMachine, goodCommittee, goodBoundary, goodRotation, goodSeat, goodReshape, wellFormed}
-use Rattle.rules.specs.Snapshot.{Reader, _>>=_, give, section, idWords, flagOf, valueOf, settingsWords, placeWords, machineWords, committeeWords, boundaryWords, rotationWords, kindWord, seatWords, reshapeWords, wordsOf, word, readSection, optionOf, isOne, readSettings, placeOf, readMachine, readCommittee, readBoundary, readRotation, readSeat, readReshape, readBoard}
+use Rattle.rules.specs.Table.{entry}
+use Rattle.rules.specs.Board.{Kind, split, merge, mostMachines, mostCommittees, mostMembers, mostBounds, mostRotations, mostReshapes, mostSeats, mostHalf, lastStamp, lastShard, lastTarget, lastWord}
+use Rattle.rules.specs.WellFormed.{within, isWord, isShard, isStamp, keyBefore, rotationBefore, goodIds, goodOption, goodSettings, goodPlace, goodMachine, goodCommittee, goodBoundary, goodRotation, goodSeat, goodReshape, wellFormed}
+use Rattle.rules.specs.Snapshot.{_>>=_, give, flagOf, valueOf, settingsWords, placeWords, machineWords, committeeWords, boundaryWords, rotationWords, kindWord, seatWords, reshapeWords, wordsOf, word, optionOf, isOne, readSettings, placeOf, readMachine, readCommittee, readBoundary, readRotation, readSeat, readReshape, readBoard}
 use Rattle.rules.proofs.Tests.{and-parts, all-parts}
 use Rattle.rules.proofs.SnapshotEncodes.{Reads, Encodes, flat, one, _then_, made, list-encodes, ids-encode}
 
@@ -47,12 +47,15 @@ settings-encode : Encodes goodSettings settingsWords readSettings 7
 unfolding goodSettings settingsWords readSettings word
 settings-encode s h = let p = all-parts _ h in flat _ (λ rest. refl) (omega (arith, leb-true, within-high))
 
+stamped-most : (s w : ℕ) → (isShard s && isStamp w) ≡ true → (s ≤ lastShard) × (w ≤ lastStamp)
+stamped-most s w h = let p = and-parts (isShard s) (isStamp w) h in omega (arith, leb-true, within-high)
+
 machine-reads : (k : ℕ) (p : Place) → k ≤ lastWord → goodPlace p ≡ true → Reads readMachine (entry k p) (k ∷ placeWords p) 5
 unfolding goodPlace placeWords readMachine placeOf word
 machine-reads k Pooled w h = flat _ (λ rest. refl) (omega arith)
-machine-reads k (Seated s true e) w h = let p = and-parts (isShard (s .0)) (isStamp (e .0)) h in flat _ (λ rest. refl) (omega (arith, leb-true, within-high))
-machine-reads k (Seated s false e) w h = let p = and-parts (isShard (s .0)) (isStamp (e .0)) h in flat _ (λ rest. refl) (omega (arith, leb-true, within-high))
-machine-reads k (Observing s e) w h = let p = and-parts (isShard (s .0)) (isStamp (e .0)) h in flat _ (λ rest. refl) (omega (arith, leb-true, within-high))
+machine-reads k (Seated s true e) w h = flat _ (λ rest. refl) (omega (arith, stamped-most (s .0) (e .0) h))
+machine-reads k (Seated s false e) w h = flat _ (λ rest. refl) (omega (arith, stamped-most (s .0) (e .0) h))
+machine-reads k (Observing s e) w h = flat _ (λ rest. refl) (omega (arith, stamped-most (s .0) (e .0) h))
 machine-reads k Short w h = flat _ (λ rest. refl) (omega arith)
 machine-reads k (Other m) w h = flat _ (λ rest. refl) (omega (arith, within-high))
 

@@ -1,13 +1,14 @@
 -- Laws of tests: many at once, of every element of a list, and of two lists.
-use Prim.Native.Nat.{ℕ, _≤_}
-use mathlib.Core.Path.{_≡_, refl, ap, sym, _∙_}
+use Prim.Native.Nat.{ℕ}
+use mathlib.Core.Path.{_≡_, refl}
 use mathlib.Core.List.{List, [], _∷_, _++_}
-use mathlib.Core.Option.{Option, none, some}
+use mathlib.Core.Option.{none, some}
 use mathlib.Core.Bool.{Bool, true, false, cond, _&&_, false≢true}
 use borrow.Author.Tests.{eqb-true, eq-eqb}
-use lib.Dec.{eqb, leb}
+use lib.Dec.{eqb}
 use Rattle.rules.specs.Lists.{allOf, every, same}
 
+-- two tests that both say yes
 pub and-parts : (a b : Bool) → (a && b) ≡ true → (a ≡ true) × (b ≡ true)
 and-parts true b h = (refl, h)
 and-parts false b h = absurd (false≢true h)
@@ -20,6 +21,7 @@ abbrev pub Yes : List Bool → Type 0
 Yes [] = Unit {0}
 Yes (c ∷ cs) = (c ≡ true) × Yes cs
 
+-- many that all say yes
 pub all-parts : (cs : List Bool) → allOf cs ≡ true → Yes cs
 unfolding allOf
 all-parts [] h = tt
@@ -30,6 +32,7 @@ pub given-if : {A : Type 0} (c : Bool) (x y : A) → cond c (some x) none ≡ so
 given-if true x y h = (refl, cc)
 given-if false x y h = let z : false ≡ true = cc in absurd (false≢true z)
 
+-- a test that every element passes: of a list's head and tail, and of two lists joined
 module _ {A : Type 0} (f : A → Bool) where
   pub every-parts : (x : A) (l : List A) → every f (x ∷ l) ≡ true → (f x ≡ true) × (every f l ≡ true)
   unfolding every
@@ -40,12 +43,7 @@ module _ {A : Type 0} (f : A → Bool) where
   every-append [] m p q = q
   every-append (x ∷ l) m p q = let r = every-parts x l p in and-joins (f x) (every f (l ++ m)) (r .0) (every-append l m (r .1) q)
 
-  -- a weaker test
-  pub every-weaken : (g : A → Bool) → ((x : A) → g x ≡ true → f x ≡ true) → (l : List A) → every g l ≡ true → every f l ≡ true
-  unfolding every
-  every-weaken g w [] h = refl
-  every-weaken g w (x ∷ l) h = let r = and-parts (g x) (every g l) h in and-joins (f x) (every f l) (w x (r .0)) (every-weaken g w l (r .1))
-
+-- a list is the same as itself, and as no other
 pub same-refl : (l : List ℕ) → same l l ≡ true
 unfolding same
 same-refl [] = refl
