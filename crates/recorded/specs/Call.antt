@@ -7,7 +7,7 @@ use lib.Dec.{eqb}
 use lib.ListN.{getD}
 use Rattle.types.specs.Numbers.{Shard, Id}
 use Rattle.types.specs.Answers.{numberOf}
-use Rattle.rules.specs.Lists.{allOf, same}
+use Rattle.rules.specs.Lists.{allOf, equal}
 use Rattle.rules.specs.Board.{Board}
 use Rattle.rules.specs.Snapshot.{wordsOf, readBoard, boardOf, snapshotAnswer}
 use Rattle.rules.specs.Turns.{Result}
@@ -58,22 +58,22 @@ stepAgrees c r =
     (eqb (numberOf (r .answer)) (c .answer)
     ∷ eqb (r .handled) (c .handled)
     ∷ eqb (r .used) (c .used)
-    ∷ same (wordsOf (r .board)) (c .after)
+    ∷ equal (wordsOf (r .board)) (c .after)
     ∷ [])
 
 -- they are no board's: 1, nothing handled, nothing drawn, the words as they were
 unfoldable pub refusalAgrees : Call → Bool
-refusalAgrees c = allOf (eqb (c .answer) 1 ∷ eqb (c .handled) 0 ∷ eqb (c .used) 0 ∷ same (c .before) (c .after) ∷ [])
+refusalAgrees c = allOf (eqb (c .answer) 1 ∷ eqb (c .handled) 0 ∷ eqb (c .used) 0 ∷ equal (c .before) (c .after) ∷ [])
 
 -- a read: 0 with the board's words, or 13 with none
 unfoldable pub readAgrees : Call → Option Board → Bool
-readAgrees c none = allOf (eqb (numberOf (snapshotAnswer none)) (c .answer) ∷ same [] (c .after) ∷ [])
-readAgrees c (some b) = allOf (eqb (numberOf (snapshotAnswer (some b))) (c .answer) ∷ same (wordsOf b) (c .after) ∷ [])
+readAgrees c none = allOf (eqb (numberOf (snapshotAnswer none)) (c .answer) ∷ equal [] (c .after) ∷ [])
+readAgrees c (some b) = allOf (eqb (numberOf (snapshotAnswer (some b))) (c .answer) ∷ equal (wordsOf b) (c .after) ∷ [])
 
 unfoldable pub agrees : Call → Bool
 agrees c =
     let b = readBoard (c .before) .0 in
     elim (eqb (c .step) 16) [
       | true ↦ readAgrees c (boardOf (c .before))
-      | false ↦ elim (same (wordsOf b) (c .before)) [ true ↦ stepAgrees c (calls.answerTo (callOf c) b) | false ↦ refusalAgrees c ]
+      | false ↦ elim (equal (wordsOf b) (c .before)) [ true ↦ stepAgrees c (calls.answerTo (callOf c) b) | false ↦ refusalAgrees c ]
     ]

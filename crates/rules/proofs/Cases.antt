@@ -12,7 +12,7 @@ use Rattle.types.specs.Places.{shardId, epochAt}
 use Rattle.types.specs.Answers.{numberOf}
 use Rattle.types.specs.declared.Place.{Place}
 use Rattle.types.specs.declared.Place.the-variants.{Pooled, Seated, Observing}
-use Rattle.rules.specs.Lists.{every, same}
+use Rattle.rules.specs.Lists.{every, equal}
 use Rattle.rules.specs.Table.{Entry, entry, Table}
 use Rattle.rules.specs.Board.{Settings, Boundary, split, merge, Seat, Reshape, Board}
 use Rattle.rules.specs.Snapshot.{wordsOf}
@@ -228,6 +228,6 @@ cases =
     ∷ []
 
 -- every row computes to what it expects
-pub cases-hold : every (λ row. same (row .computed) (row .expected)) cases ≡ true
+pub cases-hold : every (λ row. equal (row .computed) (row .expected)) cases ≡ true
 unfolding computes
 cases-hold = refl

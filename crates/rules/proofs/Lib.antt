@@ -5,3 +5,7 @@ pub mod Tables
 pub mod Tests
 pub mod Turns
 pub mod Answers
+pub mod SnapshotEncodes
+pub mod SnapshotRows
+pub mod SnapshotBytes
+pub mod Snapshot

@@ -8,7 +8,7 @@ use Prim.Native.Nat.{ℕ, zero, suc, _+_, _≤_, _<_}
 use native.Mathlib.Omega.{arith}
 use native.Mathlib.Nat.{zero-add}
 use lib.Dec.{eqb, leb, ltb, leb→le, le→leb, eqb→eq, nleb→lt, T}
-use Rattle.rules.specs.Lists.{_and_, _or_, allOf, every, any, has, distinct}
+use Rattle.rules.specs.Lists.{_and_, _or_, allOf, every, any, has, equal}
 use Rattle.rules.specs.Table.{Entry, entry, Table, at, stands, holdsAt, isSome}
 use Rattle.rules.specs.WellFormed.{rising, keyBefore}
 use Rattle.rules.proofs.Counts.{Alike, same, apart, alike, T-true, eqb-same, eqb-apart, hit, hit-same, hit-apart, occ}
@@ -60,6 +60,11 @@ of-not false h = refl
 
 pub not-of : (c : Bool) → c ≡ false → not c ≡ true
 not-of c h = rw h
+
+-- a value that is given under a test: the test says yes, and the value is that one
+pub given-if : {A : Type 0} (c : Bool) (x y : A) → cond c (some x) none ≡ some y → (c ≡ true) × (x ≡ y)
+given-if true x y h = (refl, cc)
+given-if false x y h = let z : false ≡ true = cc in absurd (false≢true z)
 
 -- ---- numbers
 
@@ -126,6 +131,22 @@ has-occ x (y ∷ l) = go (alike y x) (has-occ x l)
     go : Alike y x → has x l ≡ leb 1 (occ x l) → has x (y ∷ l) ≡ leb 1 (occ x (y ∷ l))
     go (same p q) ih = let h : hit x y ≡ 1 = rw p (hit-same x) in rw q (sym (of-le 1 (hit x y + occ x l) (omega arith)))
     go (apart p q) ih = rw (q, hit-apart x y (λ e. p (sym e))) (ih ∙ rw zero-add)
+
+pub equal-refl : (l : List ℕ) → equal l l ≡ true
+unfolding equal
+equal-refl [] = refl
+equal-refl (x ∷ l) = and-joins _ _ (eqb-same x) (equal-refl l)
+
+pub equal-true : (l m : List ℕ) → equal l m ≡ true → l ≡ m
+unfolding equal
+equal-true [] [] h = refl
+equal-true [] (y ∷ m) h = absurd (false≢true h)
+equal-true (x ∷ l) [] h = absurd (false≢true h)
+equal-true (x ∷ l) (y ∷ m) h =
+    let p = and-parts _ _ h in
+    let e : x ≡ y = eq-of x y (p .0) in
+    let t : l ≡ m = equal-true l m (p .1) in
+    cc
 
 -- ---- tables
 

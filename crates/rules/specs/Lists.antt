@@ -6,7 +6,6 @@ use lib.Dec.{eqb, leb}
 
 infixr 35 _and_
 infixr 30 _or_
-
 -- both say yes; at least one does
 unfoldable pub _and_ : Bool → Bool → Bool
 true and c = c
@@ -70,8 +69,8 @@ sort [] = []
 sort (x ∷ l) = insert x (sort l)
 
 -- the same numbers in the same places
-unfoldable pub same : List ℕ → List ℕ → Bool
-same [] [] = true
-same [] (y ∷ m) = false
-same (x ∷ l) [] = false
-same (x ∷ l) (y ∷ m) = eqb x y and same l m
+unfoldable pub equal : List ℕ → List ℕ → Bool
+equal [] [] = true
+equal [] (y ∷ m) = false
+equal (x ∷ l) [] = false
+equal (x ∷ l) (y ∷ m) = eqb x y and equal l m

@@ -62,8 +62,8 @@ seatedMembers false c b = keep (λ x. says (isSeatedOn c) b x and not (says isRe
 unfoldable pub keepersOf : Shard → ℕ → Board → List ℕ → Drawn (List Id)
 keepersOf c share b draws =
     andThen (shuffle (sort (seatedMembers true c b)) draws) (λ ready left.
-      andThen (shuffle (sort (seatedMembers false c b)) left) (λ waiting rest.
-        drew (take share (ready ++ waiting)) rest))
+    andThen (shuffle (sort (seatedMembers false c b)) left) (λ waiting rest.
+    drew (take share (ready ++ waiting)) rest))
 
 -- seats for a list of ids
 unfoldable pub seatAll : Shard → List Id → Table Seat → Table Seat
@@ -74,8 +74,8 @@ seatAll c (x ∷ l) seats = seatAll c l (put x (newSeat c) seats)
 unfoldable pub drawKeepers : Shard → Board → List ℕ → Drawn (Table Seat)
 drawKeepers t b draws =
     andThen (keepersOf (leftOf t) (halfUp (sizeOf b)) b draws) (λ lefts left.
-      andThen (keepersOf (rightOf t) (sizeOf b / 2) b left) (λ rights rest.
-        drew (seatAll (rightOf t) rights (seatAll (leftOf t) lefts [])) rest))
+    andThen (keepersOf (rightOf t) (sizeOf b / 2) b left) (λ rights rest.
+    drew (seatAll (rightOf t) rights (seatAll (leftOf t) lefts [])) rest))
 
 -- ADMIT MERGE: 'keepers are drawn, the number handled'
 unfoldable pub admitMerge : Shard → List ℕ → Board → Result
@@ -131,10 +131,10 @@ unfoldable pub drawCohort : Shard → List ℕ → Board → Result
 drawCohort t draws b =
     alone draws b
     (checked (unlessWellFormed b
-        ∷ unlessTarget t
-        ∷ not (holdsAt t awaitsCohort (b .reshapes)) gives NotThere
-        ∷ ltb (length (poolOf b)) (sizeOf b) gives PoolTooSmall
-        ∷ [])
+    ∷ unlessTarget t
+    ∷ not (holdsAt t awaitsCohort (b .reshapes)) gives NotThere
+    ∷ ltb (length (poolOf b)) (sizeOf b) gives PoolTooSmall
+    ∷ [])
     (drawn (shuffle (poolOf b) draws) (λ ids left. cohortTurn t (take (sizeOf b) ids) left b)))
 
 -- ---- LAPSE

@@ -65,7 +65,7 @@ passGate t left right draws b =
 unfoldable pub halve : Shard → List ℕ → Board → Turn
 halve t draws b =
     drawn (shuffle (seatedThere t b) draws) (λ ids left.
-      passGate t (take (halfUp (length ids)) ids) (drop (halfUp (length ids)) ids) left b)
+    passGate t (take (halfUp (length ids)) ids) (drop (halfUp (length ids)) ids) left b)
 
 -- 'first rotations there are aborted'
 unfoldable pub scheduleSplit : Shard → List ℕ → Board → Turn

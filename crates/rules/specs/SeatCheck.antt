@@ -58,8 +58,8 @@ isInOneHalf s r e = not (isSeatedOn s (e .val)) or eqb (bitOf (has (e .key) (r .
 unfoldable pub scheduledFit : Board → Bool
 scheduledFit b =
     every (λ e.
-      not (isScheduledSplit (e .val))
-      or (not (any (isOn (e .key)) (b .rotations)) and every (isInOneHalf (e .key) (e .val)) (b .machines))) (b .reshapes)
+    not (isScheduledSplit (e .val))
+    or (not (any (isOn (e .key)) (b .rotations)) and every (isInOneHalf (e .key) (e .val)) (b .machines))) (b .reshapes)
 
 -- 'reshape families don't overlap'
 unfoldable pub familiesApart : List Shard → Bool

@@ -11,7 +11,7 @@ use Rattle.types.specs.declared.Place.{Place}
 use Rattle.types.specs.declared.Place.the-variants.{Pooled, Seated, Observing, Short, Other}
 use Rattle.types.specs.declared.Answer.{Answer}
 use Rattle.types.specs.declared.Answer.the-variants.{Done, NotASnapshot}
-use Rattle.rules.specs.Lists.{_and_, bitOf, same}
+use Rattle.rules.specs.Lists.{_and_, bitOf, equal}
 use Rattle.rules.specs.Table.{Entry, entry}
 use Rattle.rules.specs.Board.{Settings, Boundary, Rotation, Kind, split, merge, Seat, Reshape, Board, mostMachines, mostCommittees, mostMembers, mostBounds, mostRotations, mostReshapes, mostSeats, mostHalf}
 use Rattle.rules.specs.WellFormed.{wellFormed}
@@ -238,7 +238,7 @@ readBoard = do
 
 -- the well-formed board that has these words, 'and no more'; none: 13
 unfoldable pub boardOf : List ℕ → Option Board
-boardOf ws = let b = readBoard ws .0 in cond (wellFormed b and same (wordsOf b) ws) (some b) none
+boardOf ws = let b = readBoard ws .0 in cond (wellFormed b and equal (wordsOf b) ws) (some b) none
 
 -- ---- '8-byte little-endian words'
 
@@ -259,7 +259,7 @@ readWords (suc n) bytes = valueOfBytes (take 8 bytes) ∷ readWords n (drop 8 by
 
 -- the words that have these bytes
 unfoldable pub wordsOfBytes : List ℕ → Option (List ℕ)
-wordsOfBytes bytes = let ws = readWords (length bytes / 8) bytes in cond (same (bytesOf ws) bytes) (some ws) none
+wordsOfBytes bytes = let ws = readWords (length bytes / 8) bytes in cond (equal (bytesOf ws) bytes) (some ws) none
 
 unfoldable pub snapshotOf : Board → List ℕ
 snapshotOf b = bytesOf (wordsOf b)

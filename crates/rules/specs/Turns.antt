@@ -31,7 +31,6 @@ pub record Fault : Type 0 where
   pub answer : Answer
 
 infix 70 _gives_
-
 abbrev pub _gives_ : Bool → Answer → Fault
 fails gives answer = record { fails = fails; answer = answer }
 
@@ -76,7 +75,7 @@ batch turn shards draws b =
 unfoldable pub poolDraw : Shard → Bool → (Id → Board → Board) → List ℕ → Board → Turn
 poolDraw s full also draws b =
     drawn (drawFrom (poolOf b) draws) (λ found left.
-      elim found [
-        | none ↦ finished 0 left b
-        | some x ↦ checked (not (mayJoin s (x ∷ []) b) gives NoRoom ∷ full gives NoRoom ∷ []) (finished 1 left (also x (putOn s (drawnTo s (epochOf b)) x b)))
-      ])
+    elim found [
+      | none ↦ finished 0 left b
+      | some x ↦ checked (not (mayJoin s (x ∷ []) b) gives NoRoom ∷ full gives NoRoom ∷ []) (finished 1 left (also x (putOn s (drawnTo s (epochOf b)) x b)))
+    ])
