@@ -25,7 +25,7 @@ use Rattle.rules.specs.Schedule as schedule
 use Rattle.rules.specs.Cut as cut
 use Rattle.rules.specs.Calls.{Call, tick, admitSplit, admitMerge, markSeatReady, markQuiet, drawCohort, lapse, scheduleSplits, scheduleMerges, cutSplits, cutMerges, leave, rotate, resolve, timeOut, answerTo}
 use Rattle.rules.proofs.Tests.{every-parts, every-join, every-none}
-use Rattle.rules.proofs.Turns.{in-turn-finished, in-turn-refused, batch-good, batch-bad}
+use Rattle.rules.proofs.Turns.{by-option, in-turn-finished, in-turn-refused, batch-good, batch-bad}
 
 unfoldable pub answersOf : Call → List ℕ
 answersOf tick = 0 ∷ 1 ∷ 2 ∷ []
@@ -133,14 +133,6 @@ module _ (x : Id) (draws : List ℕ) (b : Board) where
       go none e = rw (e, places.leaveTurn) refl
       go (some p) e = rw (e, places.leaveTurn) (may-leave-from p)
 
--- what is made of the reshape at a shard
-may-at : (l : List ℕ) (t : Shard) (b : Board) (next : Turn) → (at t (b .reshapes) ≡ none → May l next) → ((r : Reshape) → at t (b .reshapes) ≡ some r → May l next) → May l next
-may-at l t b next f g = go (at t (b .reshapes)) refl
-  where
-    go : (o : Option Reshape) → at t (b .reshapes) ≡ o → May l next
-    go none e = f e
-    go (some r) e = g r e
-
 module _ (l : List ℕ) (five : Among l NoBoundary) where
   may-drain : (t : Shard) (r : Reshape) (lefts rights : List Id) (draws : List ℕ) (b : Board) → May l (schedule.drainOrSchedule t r lefts rights draws b)
   unfolding schedule.drainOrSchedule
@@ -153,7 +145,7 @@ module _ (l : List ℕ) (five : Among l NoBoundary) where
   may-gate : (t : Shard) (lefts rights : List Id) (draws : List ℕ) (b : Board) → May l (schedule.passGate t lefts rights draws b)
   unfolding schedule.passGate
   may-gate t lefts rights draws b =
-      may-at l t b (schedule.passGate t lefts rights draws b) (λ e. rw (e, schedule.passGate) tt)
+      by-option (May l (schedule.passGate t lefts rights draws b)) (at t (b .reshapes)) (λ e. rw (e, schedule.passGate) tt)
       (λ r e. rw (e, schedule.passGate) (may-cond l (schedule.splitGate t lefts rights r b) _ _ (may-drain t r lefts rights draws b) tt))
 
   may-schedule-split : Among l DrawMissing → Among l DrawTooLarge → (t : Shard) (draws : List ℕ) (b : Board) → May l (schedule.scheduleSplit t draws b)
@@ -163,7 +155,7 @@ module _ (l : List ℕ) (five : Among l NoBoundary) where
   may-schedule-merge : (t : Shard) (draws : List ℕ) (b : Board) → May l (schedule.scheduleMerge t draws b)
   unfolding schedule.scheduleMerge
   may-schedule-merge t draws b =
-      may-at l t b (schedule.scheduleMerge t draws b) (λ e. rw (e, schedule.scheduleMerge) tt)
+      by-option (May l (schedule.scheduleMerge t draws b)) (at t (b .reshapes)) (λ e. rw (e, schedule.scheduleMerge) tt)
       (λ r e. rw (e, schedule.scheduleMerge) (may-cond l (schedule.mergeGate r b) _ _ (may-drain t r [] [] draws b) tt))
 
   module _ (four : Among l NoRecord) (eleven : Among l NoRoom) where
@@ -173,11 +165,11 @@ module _ (l : List ℕ) (five : Among l NoBoundary) where
 
     may-cut-split : (t : Shard) (draws : List ℕ) (b : Board) → May l (cut.cutSplit t draws b)
     unfolding cut.cutSplit cut.cutSplitOf
-    may-cut-split t draws b = may-at l t b (cut.cutSplit t draws b) (λ e. rw (e, cut.cutSplit) tt) (λ r e. rw (e, cut.cutSplit) (may-cut split t _ _ b 1 draws _))
+    may-cut-split t draws b = by-option (May l (cut.cutSplit t draws b)) (at t (b .reshapes)) (λ e. rw (e, cut.cutSplit) tt) (λ r e. rw (e, cut.cutSplit) (may-cut split t _ _ b 1 draws _))
 
     may-cut-merge : (t : Shard) (draws : List ℕ) (b : Board) → May l (cut.cutMerge t draws b)
     unfolding cut.cutMerge cut.cutMergeOf
-    may-cut-merge t draws b = may-at l t b (cut.cutMerge t draws b) (λ e. rw (e, cut.cutMerge) tt) (λ r e. rw (e, cut.cutMerge) (may-cut merge t _ _ b 1 draws _))
+    may-cut-merge t draws b = by-option (May l (cut.cutMerge t draws b)) (at t (b .reshapes)) (λ e. rw (e, cut.cutMerge) tt) (λ r e. rw (e, cut.cutMerge) (may-cut merge t _ _ b 1 draws _))
 
 -- ---- the statement
 

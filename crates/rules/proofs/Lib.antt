@@ -9,3 +9,4 @@ pub mod SnapshotEncodes
 pub mod SnapshotRows
 pub mod SnapshotBytes
 pub mod Snapshot
+pub mod Slips

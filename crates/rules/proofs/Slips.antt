@@ -1,0 +1,225 @@
+-- The three slips that document 01 rules out, as statements over every board.
+use mathlib.Core.Path.{_≡_, refl, ap, sym, _∙_}
+use mathlib.Core.Logic.{_≢_, _⊎_, inl, inr}
+use mathlib.Core.List.{List, [], _∷_, _++_}
+use mathlib.Core.Option.{Option, none, some, Option·map}
+use mathlib.Core.Bool.{Bool, true, false, cond, not}
+use Prim.Native.Nat.{ℕ, _+_, _-_, _≤_}
+use native.Mathlib.Omega.{arith}
+use lib.Dec.{eqb, leb}
+use lib.ListN.{length, take, drop}
+use Rattle.types.specs.Numbers as numbers
+use Rattle.types.specs.Shards.{leftOf, rightOf, quorum}
+use Rattle.types.specs.Places.{isSeatedOn, isObserving, movedTo, seatedFromWatch, short}
+use Rattle.types.specs.declared.ShardId.{ShardId}
+use Rattle.types.specs.declared.Epoch.{Epoch}
+use Rattle.types.specs.declared.Place.{Place}
+use Rattle.types.specs.declared.Place.the-variants.{Pooled, Seated, Observing, Short, Other}
+use Rattle.types.specs.declared.Answer.the-variants.{NotWellFormed}
+use Rattle.rules.specs.Table.{Table, at, each, update}
+use Rattle.rules.specs.Board.{Kind, split, Seat, Reshape, Board, epochOf, sizeOf}
+use Rattle.rules.specs.WellFormed.{wellFormed}
+use Rattle.rules.specs.Draws.{Drawn, drew, shuffle}
+use Rattle.rules.specs.Moves.{oldShards, newShards, place, join, putOn, takeOff, quit, giveUpSeat, isParty, abortRotations, forAll}
+use Rattle.rules.specs.Turns.{Result, Turn, finished, refused, Fault, checked, drawn, alone}
+use Rattle.rules.specs.Places.{leave, leaveTurn, leaveFrom, leaveFromSeat, leaveSeat}
+use Rattle.rules.specs.Reshapes.{halfUp}
+use Rattle.rules.specs.Schedule as schedule
+use Rattle.rules.specs.Cut as cut
+use Rattle.rules.proofs.Counts.{Alike, same, apart, alike, eqb-apart, eqb-same}
+use Rattle.rules.proofs.Tables.{at-each, at-update-apart}
+use Rattle.rules.proofs.Tests.{le-of, and-parts}
+use Rattle.rules.proofs.Turns.{by-option, cond-either, cond-told, Reached, begun, turned, one-board, checked-finished, Came, drawn-finished, batch-keeps, for-all-keeps}
+
+-- ---- 'restamping members at a cut'
+
+-- the machine is seated, somewhere, with this ready and this stamp
+pub record Carries (x : numbers.Id) (r : Bool) (w : Epoch) (machines : Table Place) : Type 0 where
+  pub shard : ShardId
+  pub there : at x machines ≡ some (Seated shard r w)
+
+module _ (x : numbers.Id) (r : Bool) (w : Epoch) where
+  -- a move that leaves ready and stamp of a seated machine
+  record Spares (move : Place → Place) : Type 0 where
+    to : ShardId → ShardId
+    moved : (s : ShardId) → move (Seated s r w) ≡ Seated (to s) r w
+
+  update-carries : (y : numbers.Id) (move : Place → Place) → Spares move → (t : Table Place) → Carries x r w t → Carries x r w (update y move t)
+  unfolding update
+  update-carries y move k t h = go (eqb x y) refl
+    where
+      here : at x (update y move t) ≡ some (cond (eqb x y) (move (Seated (h .shard) r w)) (Seated (h .shard) r w))
+      here = at-each (λ j v. cond (eqb j y) (move v) v) x t ∙ ap (Option·map (λ v. cond (eqb x y) (move v) v)) (h .there)
+
+      go : (c : Bool) → eqb x y ≡ c → Carries x r w (update y move t)
+      go true e = record { shard = k .to (h .shard); there = here ∙ rw e (ap some (k .moved (h .shard))) }
+      go false e = record { shard = h .shard; there = here ∙ rw e refl }
+
+  settle-carries : (t c : numbers.Shard) (seats : Table Seat) (y : numbers.Id) (b : Board) → Carries x r w (b .machines) → Carries x r w (cut.settle t c seats y b .machines)
+  unfolding cut.settle putOn join place
+  settle-carries t c seats y b h = by-option Goal (at y (b .machines)) (λ e. rw (e, cut.settle) h) (λ p e. by-option Goal (at y seats) (unseated p e) (λ q f. seated p e q f))
+    where
+      Goal : Type 0
+      Goal = Carries x r w (cut.settle t c seats y b .machines)
+
+      Board-carries : Board → Type 0
+      Board-carries d = Carries x r w (d .machines)
+
+      moves : Carries x r w (update y (movedTo c) (b .machines))
+      moves = update-carries y (movedTo c) (record { to = λ s. record { 0 = c }; moved = λ s. refl }) (b .machines) h
+
+      sits : (q : Seat) → Carries x r w (update y (seatedFromWatch c (q .ready) (epochOf b)) (b .machines))
+      sits q = update-carries y _ (record { to = λ s. s; moved = λ s. refl }) (b .machines) h
+
+      unseated : (p : Place) → at y (b .machines) ≡ some p → at y seats ≡ none → Goal
+      unseated p e f = rw (e, f, cut.settle) (cond-either Board-carries (isSeatedOn t p) _ _ moves h)
+
+      seated : (p : Place) → at y (b .machines) ≡ some p → (q : Seat) → at y seats ≡ some q → Goal
+      seated p e q f = rw (e, f, cut.settle) (cond-either Board-carries (isSeatedOn t p) _ _ moves (cond-either Board-carries (isObserving p) _ _ (sits q) h))
+
+  recast-carries : (k : Kind) (t : numbers.Shard) (height : numbers.Height) (b : Board) → Carries x r w (b .machines) → Carries x r w (cut.recast k t height b .machines)
+  unfolding cut.recast
+  recast-carries k t height b h =
+      for-all-keeps (λ c. Carries x r w (c .machines)) _ (λ s c g. g) (newShards k t) _
+      (for-all-keeps (λ c. Carries x r w (c .machines)) cut.endShard (λ s c g. g) (oldShards k t) _ h)
+
+  child-carries : (t c : numbers.Shard) (half : List numbers.Id) (seats : Table Seat) (b : Board) → Carries x r w (b .machines) → Carries x r w (cut.settleChild t c half seats b .machines)
+  unfolding cut.settleChild
+  child-carries t c half seats b h = for-all-keeps (λ d. Carries x r w (d .machines)) (cut.settle t c seats) (λ y d g. settle-carries t c seats y d g) _ b h
+
+  cut-split-carries : (t : numbers.Shard) (draws : List ℕ) (b : Board) (n : ℕ) (left : List ℕ) (c : Board) → cut.cutSplit t draws b ≡ finished n left c → Carries x r w (b .machines) → Carries x r w (c .machines)
+  unfolding cut.cutSplit cut.cutSplitOf
+  cut-split-carries t draws b n left c e h =
+      by-option (Carries x r w (c .machines)) (at t (b .reshapes))
+      (λ f. one-board (λ d. Carries x r w (d .machines)) _ n _ left b c (rw (f, cut.cutSplit) at e) h)
+      (λ q f. one-board (λ d. Carries x r w (d .machines)) _ n _ left _ c (checked-finished _ _ n left c (rw (f, cut.cutSplit) at e))
+      (child-carries t (rightOf t) (q .right) (q .seats) _ (child-carries t (leftOf t) (q .left) (q .seats) _ (recast-carries split t _ b h))))
+
+-- a machine that is seated keeps its ready and its stamp through every cut of splits, those on a target with the others
+pub cut-keeps-stamps : (x : numbers.Id) (s : ShardId) (r : Bool) (w : Epoch) (b : Board) → at x (b .machines) ≡ some (Seated s r w) → Carries x r w (cut.cutSplits b .board .machines)
+unfolding cut.cutSplits
+cut-keeps-stamps x s r w b e = batch-keeps cut.cutSplit (λ c. Carries x r w (c .machines)) (λ t draws c n left d f h. cut-split-carries x r w t draws c n left d f h) (cut.due split b) [] b (record { shard = s; there = e })
+
+-- ---- 'one quorum test for both halves'
+
+-- each half by itself, with its child's ready seats, reaches quorum; b is the board after its rotations were aborted
+pub record BothReach (t : numbers.Shard) (draws : List ℕ) (b : Board) : Type 0 where
+  pub ids : List numbers.Id
+  pub rest : List ℕ
+  pub halved : shuffle (schedule.seatedThere t b) draws ≡ drew ids rest
+  pub reshape : Reshape
+  pub stands : at t (b .reshapes) ≡ some reshape
+  pub left : quorum (sizeOf b) ≤ schedule.readyFor (leftOf t) (take (halfUp (length ids)) ids) reshape b
+  pub right : quorum (sizeOf b) ≤ schedule.readyFor (rightOf t) (drop (halfUp (length ids)) ids) reshape b
+
+-- what a turn makes of the reshapes: nothing, or with both halves at quorum a change at the target
+pub record Stamped (t : numbers.Shard) (draws : List ℕ) (b c : Board) : Type 0 where
+  pub reach : BothReach t draws b
+  pub change : Reshape → Reshape
+  pub changed : c .reshapes ≡ update t change (b .reshapes)
+
+drained-reshapes : (t : numbers.Shard) (r : Reshape) (lefts rights : List numbers.Id) (draws : List ℕ) (b : Board) (n : ℕ) (left : List ℕ) (c : Board)
+    → schedule.drainOrSchedule t r lefts rights draws b ≡ finished n left c → (c .reshapes ≡ b .reshapes) ⊎ ((f : Reshape → Reshape) × (c .reshapes ≡ update t f (b .reshapes)))
+unfolding schedule.drainOrSchedule schedule.scheduled
+drained-reshapes t r lefts rights draws b n left c e = by-option Goal (r .drainBy) first (λ d f. cond-told (λ u. u ≡ finished n left c → Goal) (schedule.isQuiet r) _ _ (λ q. sets _) (λ q. waits) (rw (f, schedule.drainOrSchedule) at e))
+  where
+    Goal : Type 0
+    Goal = (c .reshapes ≡ b .reshapes) ⊎ ((f : Reshape → Reshape) × (c .reshapes ≡ update t f (b .reshapes)))
+
+    Same : Board → Type 0
+    Same d = (d .reshapes ≡ b .reshapes) ⊎ ((f : Reshape → Reshape) × (d .reshapes ≡ update t f (b .reshapes)))
+
+    first : r .drainBy ≡ none → Goal
+    first f = one-board Same _ n _ left _ c (rw (f, schedule.drainOrSchedule) at e) (inr (_, refl))
+
+    waits : finished 0 draws b ≡ finished n left c → Goal
+    waits f = one-board Same _ n _ left b c f (inl refl)
+
+    sets : (fs : List Fault) → checked fs (finished 1 draws (schedule.scheduled t r lefts rights b)) ≡ finished n left c → Goal
+    sets fs f = one-board Same _ n _ left _ c (checked-finished _ _ n left c f) (for-all-keeps Same _ (λ s d g. g) (oldShards (r .kind) t) _ (inr (_, refl)))
+
+-- aborting rotations changes no reshape
+abort-reshapes : (t : numbers.Shard) (b : Board) → abortRotations t b .reshapes ≡ b .reshapes
+unfolding abortRotations takeOff quit place
+abort-reshapes t b = for-all-keeps (λ d. d .reshapes ≡ b .reshapes) _ (λ x d g. g) _ b refl
+
+stamped-turn : (t : numbers.Shard) (draws : List ℕ) (b : Board) (n : ℕ) (left : List ℕ) (c : Board)
+    → schedule.halve t draws b ≡ finished n left c → (c .reshapes ≡ b .reshapes) ⊎ Stamped t draws b c
+unfolding schedule.halve schedule.passGate schedule.splitGate
+stamped-turn t draws b n left c e = by-option Goal (at t (b .reshapes)) (λ f. same-board (rw (f, schedule.passGate) at (came .from))) present
+  where
+    Goal : Type 0
+    Goal = (c .reshapes ≡ b .reshapes) ⊎ Stamped t draws b c
+
+    came : Came (shuffle (schedule.seatedThere t b) draws) (λ ids rest. schedule.passGate t (take (halfUp (length ids)) ids) (drop (halfUp (length ids)) ids) rest b) n left c
+    came = drawn-finished _ _ n left c e
+
+    -- nothing done
+    same-board : finished 0 (came .rest) b ≡ finished n left c → Goal
+    same-board f = one-board (λ d. (d .reshapes ≡ b .reshapes) ⊎ Stamped t draws b d) _ n _ left b c f (inl refl)
+
+    passes : (r : Reshape) → at t (b .reshapes) ≡ some r → schedule.splitGate t (take (halfUp (length (came .value))) (came .value)) (drop (halfUp (length (came .value))) (came .value)) r b ≡ true
+        → (c .reshapes ≡ b .reshapes) ⊎ ((f : Reshape → Reshape) × (c .reshapes ≡ update t f (b .reshapes))) → Goal
+    passes r f g (inl u) = inl u
+    passes r f g (inr (change, changed)) = inr (record {
+      reach = record {
+        ids = came .value;
+        rest = came .rest;
+        halved = came .drew-it;
+        reshape = r;
+        stands = f;
+        left = le-of _ _ (and-parts _ _ g .0);
+        right = le-of _ _ (and-parts _ _ g .1);
+      };
+      change = change;
+      changed = changed;
+    })
+
+    present : (r : Reshape) → at t (b .reshapes) ≡ some r → Goal
+    present r f =
+        cond-told (λ u. u ≡ finished n left c → Goal) (schedule.splitGate t _ _ r b) _ _
+        (λ g h. passes r f g (drained-reshapes t r _ _ _ b n left c h))
+        (λ g. same-board)
+        (rw (f, schedule.passGate) at (came .from))
+
+-- the split's turn, on a board that earlier turns of the call came to, finds both halves at quorum
+pub record Gated (t : numbers.Shard) (b : Board) : Type 0 where
+  pub board : Board
+  pub draws : List ℕ
+  pub reached : Reached schedule.scheduleSplit b board
+  pub reach : BothReach t draws (abortRotations t board)
+
+-- a split is stamped or scheduled only where each half by itself, with its child's ready seats, reaches quorum
+pub stamped-at-quorum : (draws : List ℕ) (b : Board) (t : numbers.Shard) → (at t (schedule.scheduleSplits draws b .board .reshapes) ≡ at t (b .reshapes)) ⊎ Gated t b
+unfolding schedule.scheduleSplits schedule.scheduleSplit
+stamped-at-quorum draws b t = batch-keeps schedule.scheduleSplit Held keeps (schedule.unscheduled split b) draws b (begun, inl refl) .1
+  where
+    Held : Board → Type 0
+    Held c = Reached schedule.scheduleSplit b c × ((at t (c .reshapes) ≡ at t (b .reshapes)) ⊎ Gated t b)
+
+    turn : (s : numbers.Shard) (ds : List ℕ) (d c : Board) → Reached schedule.scheduleSplit b d → Alike t s → (c .reshapes ≡ abortRotations s d .reshapes) ⊎ Stamped s ds (abortRotations s d) c
+        → at t (d .reshapes) ≡ at t (b .reshapes) → (at t (c .reshapes) ≡ at t (b .reshapes)) ⊎ Gated t b
+    turn s ds d c g a (inl e) h = inl (ap (at t) (e ∙ abort-reshapes s d) ∙ h)
+    turn s ds d c g (same p q) (inr m) h = inr (record { board = d; draws = ds; reached = g; reach = rw p (m .reach) })
+    turn s ds d c g (apart p q) (inr m) h = inl (ap (at t) (m .changed) ∙ at-update-apart t s (m .change) _ p ∙ ap (at t) (abort-reshapes s d) ∙ h)
+
+    keeps : (s : numbers.Shard) (ds : List ℕ) (d : Board) (n : ℕ) (left : List ℕ) (c : Board) → schedule.scheduleSplit s ds d ≡ finished n left c → Held d → Held c
+    keeps s ds d n left c e (g, inr h) = (turned s ds left n g e, inr h)
+    keeps s ds d n left c e (g, inl h) = (turned s ds left n g e, turn s ds d c g (alike t s) (stamped-turn s ds (abortRotations s d) n left c e) h)
+
+-- ---- 'filling a place after a rotation party leaves'
+
+-- no draw is taken, none is handled, and nobody else's place changes
+pub record Unfilled (x : numbers.Id) (b : Board) (r : Result) : Type 0 where
+  pub used : r .used ≡ 0
+  pub handled : r .handled ≡ 0
+  pub others : (y : numbers.Id) → y ≢ x → at y (r .board .machines) ≡ at y (b .machines)
+
+pub party-leaves : (x : numbers.Id) (draws : List ℕ) (b : Board) (s : ShardId) (r : Bool) (w : Epoch)
+    → at x (b .machines) ≡ some (Seated s r w) → isParty (s .0) x b ≡ true → Unfilled x b (leave x draws b)
+unfolding leave alone checked leaveTurn leaveFrom leaveFromSeat leaveSeat giveUpSeat takeOff quit place
+party-leaves x draws b s r w e p = go (wellFormed b) refl
+  where
+    go : (c : Bool) → wellFormed b ≡ c → Unfilled x b (leave x draws b)
+    go true f = rw (f, e, p, leaveTurn) (record { used = omega arith; handled = refl; others = λ y n. at-update-apart y x short (b .machines) n })
+    go false f = rw f (record { used = refl; handled = refl; others = λ y n. refl })
