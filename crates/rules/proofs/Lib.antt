@@ -10,3 +10,4 @@ pub mod SnapshotRows
 pub mod SnapshotBytes
 pub mod Snapshot
 pub mod Slips
+pub mod Draws
