@@ -202,7 +202,7 @@ module _ (b : Board) where
 
   pub may-draw-cohort : (t : Shard) (draws : List ℕ) (d : Drawn (List Id)) (target awaits pool : Bool)
       → May (refusalsOf (drawCohort t draws))
-        (checked (unlessWellFormed b ∷ target gives OutOfRange ∷ awaits gives NotThere ∷ pool gives PoolTooSmall ∷ []) (drawn d (λ ids left. reshapes.cohortTurn t (take (sizeOf b) ids) left b)))
+      (checked (unlessWellFormed b ∷ target gives OutOfRange ∷ awaits gives NotThere ∷ pool gives PoolTooSmall ∷ []) (drawn d (λ ids left. reshapes.cohortTurn t (take (sizeOf b) ids) left b)))
   unfolding unfolded
   may-draw-cohort t draws d target awaits pool =
       let l = refusalsOf (drawCohort t draws) in may-check l _ _ refl (may-draw l refl refl d _ (λ ids left. may-check l _ _ refl tt))

@@ -203,8 +203,8 @@ leave-from-reads (Other m) x b = finished-reads 0 _
 leave-reads : (x : Id) (b : Board) → ReadsTurn (λ ds. places.leaveTurn x ds b)
 unfolding places.leaveTurn
 leave-reads x b = by-option (ReadsTurn (λ ds. places.leaveTurn x ds b)) (at x (b .machines))
-  (λ e. same-reads _ _ (λ ds. rw (e, places.leaveTurn)) (refused-reads NoRecord))
-  (λ p e. same-reads _ _ (λ ds. rw (e, places.leaveTurn)) (leave-from-reads p x b))
+    (λ e. same-reads _ _ (λ ds. rw (e, places.leaveTurn)) (refused-reads NoRecord))
+    (λ p e. same-reads _ _ (λ ds. rw (e, places.leaveTurn)) (leave-from-reads p x b))
 
 -- what a turn does at the reshape of its shard
 at-reads : (t : Shard) (b : Board) (f : List ℕ → Turn) (g : Reshape → List ℕ → Turn) → (at t (b .reshapes) ≡ none → (ds : List ℕ) → f ds ≡ finished 0 ds b)
@@ -214,8 +214,8 @@ at-reads t b f g u v p = by-option (ReadsTurn f) (at t (b .reshapes)) (λ e. sam
 drain-reads : (t : Shard) (r : Reshape) (lefts rights : List Id) (b : Board) → ReadsTurn (λ ds. schedule.drainOrSchedule t r lefts rights ds b)
 unfolding schedule.drainOrSchedule
 drain-reads t r lefts rights b = by-option (ReadsTurn (λ ds. schedule.drainOrSchedule t r lefts rights ds b)) (r .drainBy)
-  (λ e. same-reads _ stamps (λ ds. ap (told ds) e) (finished-reads 0 _))
-  (λ d e. same-reads _ quietly (λ ds. ap (told ds) e) (cond-reads (schedule.isQuiet r) _ _ (checked-reads _ _ (finished-reads 1 _)) (finished-reads 0 b)))
+    (λ e. same-reads _ stamps (λ ds. ap (told ds) e) (finished-reads 0 _))
+    (λ d e. same-reads _ quietly (λ ds. ap (told ds) e) (cond-reads (schedule.isQuiet r) _ _ (checked-reads _ _ (finished-reads 1 _)) (finished-reads 0 b)))
   where
     stamps : List ℕ → Turn
     stamps ds = finished 0 ds (onReshapes (update t (withDrainBy (epochOf b + b .settings .drain))) b)

@@ -11,3 +11,4 @@ pub mod SnapshotBytes
 pub mod Snapshot
 pub mod Slips
 pub mod Draws
+pub mod Refusals
