@@ -5,3 +5,5 @@ pub mod Tables
 pub mod Tests
 pub mod KeptLists
 pub mod KeptTables
+pub mod KeptBoard
+pub mod KeptMoves
