@@ -3,13 +3,13 @@ use mathlib.Core.Path.{_≡_, refl, ap, sym, subst, _∙_}
 use mathlib.Core.Logic.{_≢_}
 use mathlib.Core.List.{List, [], _∷_}
 use mathlib.Core.Option.{Option, none, some, Option·map, Option·none-ne-some, Option·some-injective}
-use mathlib.Core.Bool.{Bool, true, false, cond}
+use mathlib.Core.Bool.{Bool, true, false, cond, false≢true}
 use Prim.Native.Nat.{ℕ, suc, _+_, _*_, _≤_, _<_, zero-le}
 use native.Mathlib.Omega.{arith}
 use lib.Dec.{eqb, leb, ltb}
 use lib.ListN.{length}
 use Rattle.rules.specs.Lists.{bitOf, every}
-use Rattle.rules.specs.Table.{Entry, entry, Table, at, stands, put, remove, each, update, keysWhere, isSome}
+use Rattle.rules.specs.Table.{Entry, entry, Table, at, holdsAt, put, remove, each, update, keysWhere}
 use Rattle.rules.specs.WellFormed.{goodList, goodTable}
 use Rattle.rules.proofs.Counts.{Alike, same, apart, alike, eqb-same, eqb-apart, occ}
 use Rattle.rules.proofs.Tables.{From, From-weaken, From-each, From-update, From-remove, From-put, at-each, at-put, at-remove, at-below, tally, occ-keysWhere, known-most}
@@ -145,3 +145,12 @@ module _ {A : Type 0} where
       go : (q : Option A) → at x t ≡ q → 1 ≤ tally (λ v. bitOf (f v)) q → (v : A) × (at x t ≡ some v) × (f v ≡ true)
       go none e h = absurd (omega arith)
       go (some v) e h = (v, e, bit (f v) h)
+
+  -- a test of what stands at a key
+  pub at-holds : (k : ℕ) (f : A → Bool) (t : Table A) → holdsAt k f t ≡ true → (v : A) × (at k t ≡ some v) × (f v ≡ true)
+  unfolding holdsAt
+  at-holds k f t h = go (at k t) refl h
+    where
+      go : (o : Option A) → at k t ≡ o → (elim o as (λ u. Bool) [ none ↦ false | some v ↦ f v ]) ≡ true → (v : A) × (at k t ≡ some v) × (f v ≡ true)
+      go none e u = absurd (false≢true u)
+      go (some v) e u = (v, e, u)

@@ -7,3 +7,5 @@ pub mod KeptLists
 pub mod KeptTables
 pub mod KeptBoard
 pub mod KeptMoves
+pub mod KeptTurns
+pub mod KeptPlaces
