@@ -176,6 +176,10 @@ Joins-place : {b : Board} {l : List Id} (s : Shard) (x : Id) (move : Place → P
 unfolding place membersOf
 Joins-place s x move j = record { shard = j .shard; words = j .words; once = j .once; few = j .few; opens = j .opens }
 
+pub Joins-reshapes : {b : Board} {l : List Id} (s : Shard) (f : Table Reshape → Table Reshape) → Joins s l b → Joins s l (onReshapes f b)
+unfolding membersOf
+Joins-reshapes s f j = record { shard = j .shard; words = j .words; once = j .once; few = j .few; opens = j .opens }
+
 module _ {b : Board} {l : List Id} (s : Shard) (move : Place → Place) (k : Keeps move) (x : Id) (j : Joins s (x ∷ l) b) (h : Good b) where
   pub good-putOn : Good (putOn s move x b)
   unfolding putOn

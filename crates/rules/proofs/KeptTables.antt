@@ -154,3 +154,11 @@ module _ {A : Type 0} where
       go : (o : Option A) → at k t ≡ o → (elim o as (λ u. Bool) [ none ↦ false | some v ↦ f v ]) ≡ true → (v : A) × (at k t ≡ some v) × (f v ≡ true)
       go none e u = absurd (false≢true u)
       go (some v) e u = (v, e, u)
+
+  pub holds-at : (k : ℕ) (f : A → Bool) (t : Table A) (v : A) → at k t ≡ some v → holdsAt k f t ≡ f v
+  unfolding holdsAt
+  holds-at k f t v e = rw (e, holdsAt)
+
+  pub at-update : (k : ℕ) (f : A → A) (t : Table A) → at k (update k f t) ≡ Option·map f (at k t)
+  unfolding update
+  at-update k f t = at-each (λ j v. cond (eqb j k) (f v) v) k t ∙ simp eqb-same

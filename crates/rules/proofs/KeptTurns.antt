@@ -12,10 +12,10 @@ use Rattle.types.specs.Places.{drawnTo}
 use Rattle.types.specs.declared.Answer.the-variants.{Done, NotWellFormed, NoRoom}
 use Rattle.rules.specs.Board.{Board, epochOf}
 use Rattle.rules.specs.WellFormed.{wellFormed}
-use Rattle.rules.specs.Draws.{Drawn, drew, missing, tooLarge, andThen, drawIndex, drawFrom}
+use Rattle.rules.specs.Draws.{Drawn, drew, missing, tooLarge, andThen, drawIndex, shuffle, drawFrom}
 use Rattle.rules.specs.Moves.{poolOf, putOn, mayJoin}
 use Rattle.rules.specs.Turns.{Result, Turn, finished, refused, Fault, _gives_, checked, drawn, alone, inTurn, batch, poolDraw}
-use Rattle.rules.proofs.Counts.{occ, occ-getD, hit-same}
+use Rattle.rules.proofs.Counts.{occ, occ-getD, hit-same, shuffle-keeps}
 use Rattle.rules.proofs.Tests.{le-of}
 
 -- a check that did not fail
@@ -27,16 +27,52 @@ abbrev pub Passed : List Fault → Type 0
 Passed [] = Unit {0}
 Passed (f ∷ fs) = (f .fails ≡ false) × Passed fs
 
--- the one drawn is of the pool
-drawn-in : (pool draws : List ℕ) (x : Id) (left : List ℕ) → drawFrom pool draws ≡ drew (some x) left → 1 ≤ occ x pool
-unfolding drawFrom andThen drawIndex
-drawn-in [] draws x left e = absurd (let z : _≡_ {A = ℕ} 0 1 = cc in omega arith)
-drawn-in (y ∷ l) [] x left e = absurd (let z : _≡_ {A = ℕ} 0 1 = cc in omega arith)
-drawn-in (y ∷ l) (j ∷ draws) x left e = go (leb j (length l)) refl e
+-- ---- draws: a property of whatever can be drawn
+
+abbrev pub Draws : {A : Type 0} → (A → Type 0) → Drawn A → Type 0
+Draws P (drew a left) = P a
+Draws P missing = Unit {0}
+Draws P tooLarge = Unit {0}
+
+pub andThen-draws : {A B : Type 0} (P : A → Type 0) (Q : B → Type 0) (d : Drawn A) (f : A → List ℕ → Drawn B) → Draws P d → ((a : A) (left : List ℕ) → P a → Draws Q (f a left)) → Draws Q (andThen d f)
+unfolding andThen
+andThen-draws P Q (drew a left) f p h = h a left p
+andThen-draws P Q missing f p h = tt
+andThen-draws P Q tooLarge f p h = tt
+
+index-draws : (i : ℕ) (draws : List ℕ) → Draws (λ j. j ≤ i) (drawIndex i draws)
+unfolding drawIndex
+index-draws i [] = tt
+index-draws i (j ∷ draws) = go (leb j i) refl
   where
-    go : (c : Bool) → leb j (length l) ≡ c → andThen (cond c (drew j draws) tooLarge) (λ k rest. drew (some (getD (y ∷ l) k 0)) rest) ≡ drew (some x) left → 1 ≤ occ x (y ∷ l)
-    go true u f = let g : getD (y ∷ l) j 0 ≡ x = cc in rw g at (occ-getD (y ∷ l) j (omega (arith, le-of j (length l) u)))
-    go false u f = absurd (let z : _≡_ {A = ℕ} 0 1 = cc in omega arith)
+    go : (c : Bool) → leb j i ≡ c → Draws (λ k. k ≤ i) (cond c (drew j draws) tooLarge)
+    go true e = le-of _ _ e
+    go false e = tt
+
+-- the one drawn is of the pool
+abbrev pub OfPool : List Id → Option Id → Type 0
+OfPool pool none = Unit {0}
+OfPool pool (some x) = 1 ≤ occ x pool
+
+pub pool-draws : (pool : List Id) (draws : List ℕ) → Draws (OfPool pool) (drawFrom pool draws)
+unfolding drawFrom
+pool-draws [] draws = tt
+pool-draws (x ∷ l) draws = andThen-draws (λ k. k ≤ length l) _ _ _ (index-draws (length l) draws) (λ k left h. occ-getD (x ∷ l) k (omega arith))
+
+-- the same ids in another order
+pub record Mixed (l m : List Id) : Type 0 where
+  pub size : length m ≡ length l
+  pub ids : (x : ℕ) → occ x m ≡ occ x l
+
+pub shuffle-draws : (l : List Id) (draws : List ℕ) → Draws (Mixed l) (shuffle l draws)
+shuffle-draws l draws = go (shuffle l draws) refl
+  where
+    go : (d : Drawn (List Id)) → shuffle l draws ≡ d → Draws (Mixed l) d
+    go (drew m left) e = record { size = shuffle-keeps 0 l draws m left e .0; ids = λ x. shuffle-keeps x l draws m left e .1 }
+    go missing e = tt
+    go tooLarge e = tt
+
+-- ---- turns
 
 module _ (P : Board → Type 0) where
   abbrev pub Finishes : Turn → Type 0
@@ -52,11 +88,11 @@ module _ (P : Board → Type 0) where
       go true e k = tt
       go false e k = k (λ p. h (e, p))
 
-  pub drawn-finishes : {A : Type 0} (d : Drawn A) (turn : A → List ℕ → Turn) → ((a : A) (left : List ℕ) → d ≡ drew a left → Finishes (turn a left)) → Finishes (drawn d turn)
+  pub drawn-finishes : {A : Type 0} (Q : A → Type 0) (d : Drawn A) (turn : A → List ℕ → Turn) → Draws Q d → ((a : A) (left : List ℕ) → Q a → Finishes (turn a left)) → Finishes (drawn d turn)
   unfolding drawn
-  drawn-finishes (drew a left) turn h = h a left refl
-  drawn-finishes missing turn h = tt
-  drawn-finishes tooLarge turn h = tt
+  drawn-finishes Q (drew a left) turn q h = h a left q
+  drawn-finishes Q missing turn q h = tt
+  drawn-finishes Q tooLarge turn q h = tt
 
   pub cond-finishes : (c : Bool) (t u : Turn) → (c ≡ true → Finishes t) → (c ≡ false → Finishes u) → Finishes (cond c t u)
   cond-finishes true t u p q = p refl
@@ -96,12 +132,12 @@ module _ (P : Board → Type 0) where
       → ((x : Id) → 1 ≤ occ x (poolOf b) → mayJoin s (x ∷ []) b ≡ true → full ≡ false → P (also x (putOn s (drawnTo s (epochOf b)) x b)))
       → Finishes (poolDraw s full also draws b)
   unfolding poolDraw
-  poolDraw-finishes s full also draws b p k = drawn-finishes (drawFrom (poolOf b) draws) _ go
+  poolDraw-finishes s full also draws b p k = drawn-finishes (OfPool (poolOf b)) (drawFrom (poolOf b) draws) _ (pool-draws (poolOf b) draws) go
     where
-      go : (found : Option Id) (left : List ℕ) → drawFrom (poolOf b) draws ≡ drew found left
+      go : (found : Option Id) (left : List ℕ) → OfPool (poolOf b) found
           → Finishes (elim found [
             | none ↦ finished 0 left b
             | some x ↦ checked (not (mayJoin s (x ∷ []) b) gives NoRoom ∷ full gives NoRoom ∷ []) (finished 1 left (also x (putOn s (drawnTo s (epochOf b)) x b)))
           ])
       go none left e = p
-      go (some x) left e = checked-finishes _ _ (λ q. k x (drawn-in (poolOf b) draws x left e) (of-no _ (q .0)) (q .1 .0))
+      go (some x) left e = checked-finishes _ _ (λ q. k x e (of-no _ (q .0)) (q .1 .0))

@@ -9,3 +9,4 @@ pub mod KeptBoard
 pub mod KeptMoves
 pub mod KeptTurns
 pub mod KeptPlaces
+pub mod KeptReshapes
