@@ -6,7 +6,6 @@ use mathlib.Core.Option.{Option, none, some, Option·map, Option·none-ne-some, 
 use mathlib.Core.Bool.{Bool, true, false, cond, not, false≢true}
 use Prim.Native.Nat.{ℕ, suc, _+_, _*_, _/_, _≤_, _<_}
 use native.Mathlib.Omega.{arith}
-use native.Mathlib.Nat.{div-mul-le-self}
 use lib.Dec.{eqb, leb}
 use lib.ListN.{length, take, drop, length-take, take-append-drop}
 use Rattle.types.specs.Numbers.{Shard, Id}
@@ -87,7 +86,7 @@ drawKeepers-draw t b draws h =
     andThen-draws (Keepers (halfUp (sizeOf b))) _ _ _ (keepers-draw (leftOf t) _ b draws h) (λ lefts left p.
     andThen-draws (Keepers (sizeOf b / 2)) _ _ _ (keepers-draw (rightOf t) _ b left h) (λ rights rest q.
     let k = seatAll-rows t (rightOf t) (good-right t) _ rights (q .words) _ (seatAll-rows t (leftOf t) (good-left t) 0 lefts (p .words) [] (Rows-none 0 (goodSeat t))) in
-    Rows-within (omega (arith, k .room, p .few, q .few, div-mul-le-self (sizeOf b + 1) 2, div-mul-le-self (sizeOf b) 2, limits _ (h .settings) .size)) k))
+    Rows-within (omega (arith, k .room, p .few, q .few, limits _ (h .settings) .size)) k))
 
 pub good-admitMerge : (t : Shard) (draws : List ℕ) (b : Board) → Good b → Good (admitMerge t draws b .board)
 unfolding admitMerge admissionFaults

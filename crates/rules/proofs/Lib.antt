@@ -10,3 +10,4 @@ pub mod KeptMoves
 pub mod KeptTurns
 pub mod KeptPlaces
 pub mod KeptReshapes
+pub mod KeptSchedule
