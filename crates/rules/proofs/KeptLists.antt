@@ -16,6 +16,11 @@ use Rattle.rules.specs.Moves.{hasParty, isOn, openRotation, dropFirst, d
 use Rattle.rules.proofs.Counts.{Alike, same, apart, alike, eqb-same, hit, hit-same, hit-apart, occ, occ-nil, occ-append, occ-single, occ-take, occ-keep, occ-strike, shuffle-keeps}
 use Rattle.rules.proofs.Tests.{and-parts, and-joins, or-cases, or-left, or-right, all-parts, all-joins, of-not, not-of, le-of, of-le, lt-of-no, eq-of, of-eq, every-parts, every-join, every-none, every-weaken, every-has, has-every, has-occ}
 
+-- what holds of both branches, each where it is taken
+pub by-cases : {A : Type 0} (P : A → Type 0) (c : Bool) (x y : A) → (c ≡ true → P x) → (c ≡ false → P y) → P (cond c x y)
+by-cases P true x y p q = p refl
+by-cases P false x y p q = q refl
+
 or-none : (a b : Bool) → (a or b) ≡ false → (a ≡ false) × (b ≡ false)
 unfolding _or_
 or-none true b h = absurd (true≢false h)

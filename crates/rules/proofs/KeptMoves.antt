@@ -1,6 +1,6 @@
 -- Moves that keep a board good.
 use mathlib.Core.Path.{_≡_, refl, ap, sym, subst, _∙_}
-use mathlib.Core.Logic.{_⊎_, inl, inr}
+use mathlib.Core.Logic.{_≢_, _⊎_, inl, inr}
 use mathlib.Core.List.{List, [], _∷_, _++_}
 use mathlib.Core.Option.{Option, none, some, Option·none-ne-some}
 use mathlib.Core.Bool.{Bool, true, false, cond, not, false≢true}
@@ -20,7 +20,7 @@ use Rattle.rules.specs.Moves.{membersOf, place, join, quit, putOn, takeO
 use Rattle.rules.proofs.Counts.{occ, occ-nil, occ-append, occ-single, hit-same}
 use Rattle.rules.proofs.Tables.{at-put, at-each}
 use Rattle.rules.proofs.Tests.{and-parts, and-joins, or-cases, all-parts, all-joins, of-not, le-of, of-le, lt-of-no, every-has, has-occ}
-use Rattle.rules.proofs.Counts.{eqb-same, occ-nil, hit}
+use Rattle.rules.proofs.Counts.{eqb-same, eqb-apart, occ-nil, hit}
 use Rattle.rules.proofs.KeptLists.{Ids, Ids-none, ids-of, of-ids, Ids-strike, Ids-join, Rota-dropRotations}
 use Rattle.rules.proofs.KeptTables.{Rows, Rows-within, Rows-put, Rows-remove, Rows-update, length-put, length-replace}
 use Rattle.rules.proofs.KeptBoard.{Fit, fit-of, of-fit, Fit-seats, Good, on-machines, on-committees, on-bounds, on-rotations, on-reshapes}
@@ -127,18 +127,26 @@ opens-of {b} h s e v = go (at s (b .committees)) refl (or-cases _ _ e)
     go none a (inr u) = let l : length (b .committees) < mostCommittees = le-of _ _ u in omega (arith, length-put s v (b .committees))
     go (some w) a u = rw (length-replace s 0 v w (b .committees) (h .committees .rising) a) (h .committees .room)
 
+pub joins : {b : Board} {l : List Id} → Good b → (s : Shard) → isShard s ≡ true → Ids mostMembers l → ((x : ℕ) → 1 ≤ occ x l → occ x (membersOf s b) ≡ 0)
+    → length (membersOf s b) + length l ≤ mostMembers → ((v : List Id) → length (put s v (b .committees)) ≤ mostCommittees) → Joins s l b
+joins {b} {l} h s ok i absent few opens = record { shard = ok; words = i .words; once = λ x. go x (leb 1 (occ x l)) refl; few = few; opens = opens }
+  where
+    go : (x : ℕ) (c : Bool) → leb 1 (occ x l) ≡ c → occ x l + occ x (membersOf s b) ≤ 1
+    go x true u = omega (arith, absent x (le-of _ _ u), i .once x)
+    go x false u = omega (arith, lt-of-no 1 (occ x l) u, members-good h s .once x)
+
+-- what 11 asks
 pub joins-of : {b : Board} {l : List Id} → Good b → (s : Shard) → isShard s ≡ true → Ids mostMembers l → mayJoin s l b ≡ true → Joins s l b
 unfolding mayJoin
 joins-of {b} {l} h s ok i e =
     let p = and-parts _ _ e in
     let q = and-parts _ _ (p .1) in
-    record { shard = ok; words = i .words; once = λ x. go x (leb 1 (occ x l)) refl (q .0); few = le-of _ _ (q .1); opens = opens-of h s (p .0) }
+    joins h s ok i (absent (q .0)) (le-of _ _ (q .1)) (opens-of h s (p .0))
   where
-    go : (x : ℕ) (c : Bool) → leb 1 (occ x l) ≡ c → every (λ y. not (has y (membersOf s b))) l ≡ true → occ x l + occ x (membersOf s b) ≤ 1
-    go x true u k =
-        let n : leb 1 (occ x (membersOf s b)) ≡ false = sym (has-occ x (membersOf s b)) ∙ of-not _ (every-has (λ y. not (has y (membersOf s b))) l x k (le-of _ _ u)) in
-        omega (arith, lt-of-no 1 (occ x (membersOf s b)) n, i .once x)
-    go x false u k = omega (arith, lt-of-no 1 (occ x l) u, members-good h s .once x)
+    absent : every (λ y. not (has y (membersOf s b))) l ≡ true → (x : ℕ) → 1 ≤ occ x l → occ x (membersOf s b) ≡ 0
+    absent k x o =
+        let n : leb 1 (occ x (membersOf s b)) ≡ false = sym (has-occ x (membersOf s b)) ∙ of-not _ (every-has (λ y. not (has y (membersOf s b))) l x k o) in
+        omega (arith, lt-of-no 1 (occ x (membersOf s b)) n)
 
 pub good-join : {b : Board} {l : List Id} (s : Shard) (x : Id) → Joins s (x ∷ l) b → Good b → Good (join s x b)
 unfolding join goodCommittee occ
@@ -149,22 +157,23 @@ good-join {b} {l} s x j h =
     more =
         Ids-join x (members-good h s) (j .words x (omega (arith, hit-same x))) (omega (arith, hit-same x, j .once x)) (omega (arith, j .few))
 
+at-join : (s : Shard) (x : Id) (b : Board) → at s (put s (membersOf s b ++ (x ∷ [])) (b .committees)) ≡ some (membersOf s b ++ (x ∷ []))
+at-join s x b = rw (at-put s s (membersOf s b ++ (x ∷ [])) (b .committees), eqb-same)
+
+pub members-join : (s : Shard) (x : Id) (b : Board) → membersOf s (join s x b) ≡ membersOf s b ++ (x ∷ [])
+unfolding join
+members-join s x b = members-at s (join s x b) _ (at-join s x b)
+
 -- then for one fewer
 pub Joins-next : {b : Board} {l : List Id} (s : Shard) (x : Id) → Joins s (x ∷ l) b → Good b → Joins s l (join s x b)
-unfolding join membersOf occ
+unfolding join occ
 Joins-next {b} {l} s x j h = record {
   shard = j .shard;
   words = λ y o. j .words y (omega arith);
-  once = λ y. rw now (omega (arith, occ-append y (membersOf s b) (x ∷ []), occ-single y x, j .once y));
-  few = rw now (omega (arith, length-append (membersOf s b) (x ∷ []), j .few));
-  opens = λ v. rw (length-replace s 0 v (membersOf s b ++ (x ∷ [])) (put s (membersOf s b ++ (x ∷ [])) (b .committees)) (good-join s x j h .committees .rising) there) (j .opens _);
+  once = λ y. rw (members-join s x b) (omega (arith, occ-append y (membersOf s b) (x ∷ []), occ-single y x, j .once y));
+  few = rw (members-join s x b) (omega (arith, length-append (membersOf s b) (x ∷ []), j .few));
+  opens = λ v. rw (length-replace s 0 v _ _ (good-join s x j h .committees .rising) (at-join s x b)) (j .opens _);
 }
-  where
-    there : at s (put s (membersOf s b ++ (x ∷ [])) (b .committees)) ≡ some (membersOf s b ++ (x ∷ []))
-    there = rw (at-put s s (membersOf s b ++ (x ∷ [])) (b .committees), eqb-same)
-
-    now : membersOf s (join s x b) ≡ membersOf s b ++ (x ∷ [])
-    now = members-at s (join s x b) _ there
 
 pub good-quit : {b : Board} (s : Shard) (x : Id) → Good b → Good (quit s x b)
 unfolding quit goodCommittee
@@ -188,6 +197,15 @@ module _ {b : Board} {l : List Id} (s : Shard) (move : Place → Place) (k : Kee
   pub Joins-putOn : Joins s l (putOn s move x b)
   unfolding putOn
   Joins-putOn = Joins-next s x (Joins-place s x move j) (good-place x move k h)
+
+pub members-putOn : (s : Shard) (move : Place → Place) (x : Id) (b : Board) → membersOf s (putOn s move x b) ≡ membersOf s b ++ (x ∷ [])
+unfolding putOn place membersOf
+members-putOn s move x b = members-join s x (place x move b)
+
+-- the other committees are as they were
+pub elsewhere-putOn : (d s : Shard) (move : Place → Place) (x : Id) (b : Board) → d ≢ s → at d (putOn s move x b .committees) ≡ at d (b .committees)
+unfolding putOn join place
+elsewhere-putOn d s move x b n = at-put d s _ (b .committees) ∙ rw (eqb-apart d s n)
 
 pub good-takeOff : {b : Board} (s : Shard) (move : Place → Place) → Keeps move → (x : Id) → Good b → Good (takeOff s move x b)
 unfolding takeOff

@@ -162,3 +162,16 @@ module _ {A : Type 0} where
   pub at-update : (k : ℕ) (f : A → A) (t : Table A) → at k (update k f t) ≡ Option·map f (at k t)
   unfolding update
   at-update k f t = at-each (λ j v. cond (eqb j k) (f v) v) k t ∙ simp eqb-same
+
+  pub at-other : (j k : ℕ) (f : A → A) (t : Table A) → j ≢ k → at j (update k f t) ≡ at j t
+  unfolding update
+  at-other j k f t n = at-each (λ i v. cond (eqb i k) (f v) v) j t ∙ rw (eqb-apart j k n) (go (at j t))
+    where
+      go : (o : Option A) → Option·map (λ v. v) o ≡ o
+      go none = refl
+      go (some v) = refl
+
+  -- a test reads the table at one key
+  pub holds-same : (k : ℕ) (f : A → Bool) (t u : Table A) → at k t ≡ at k u → holdsAt k f t ≡ holdsAt k f u
+  unfolding holdsAt
+  holds-same k f t u e = rw (e, holdsAt)

@@ -11,3 +11,5 @@ pub mod KeptTurns
 pub mod KeptPlaces
 pub mod KeptReshapes
 pub mod KeptSchedule
+pub mod KeptCut
+pub mod Kept
