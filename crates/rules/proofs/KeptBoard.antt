@@ -1,20 +1,19 @@
 -- A good board: what `wellFormed` says of each part, and one part changed.
-use mathlib.Core.Path.{_≡_, refl, sym, _∙_}
-use mathlib.Core.List.{List, [], _∷_}
-use mathlib.Core.Option.{Option, none, some}
-use mathlib.Core.Bool.{Bool, true, false, not}
-use Prim.Native.Nat.{ℕ, suc, _+_, _*_, _≤_, _<_}
+use mathlib.Core.Path.{_≡_}
+use mathlib.Core.List.{List}
+use mathlib.Core.Option.{some}
+use mathlib.Core.Bool.{Bool, true}
+use Prim.Native.Nat.{ℕ, _+_, _*_, _≤_}
 use native.Mathlib.Omega.{arith}
-use lib.Dec.{eqb, leb, ltb}
 use Rattle.types.specs.Numbers.{Shard, Id, Epoch}
 use Rattle.types.specs.Shards.{leftOf, rightOf}
 use Rattle.types.specs.declared.Place.{Place}
 use Rattle.rules.specs.Lists.{_and_, _or_, isEmpty}
-use Rattle.rules.specs.Table.{Entry, entry, Table, at}
-use Rattle.rules.specs.Board.{Settings, Boundary, Rotation, Kind, split, merge, Seat, Reshape, Board, mostMachines, mostCommittees, mostMembers, mostBounds, mostReshapes, mostSeats, mostHalf, lastEpoch, lastStamp, onSettings, onMachines, onCommittees, onBounds, onRotations, onReshapes}
-use Rattle.rules.specs.WellFormed.{isShard, isTarget, isWord, isStamp, goodOption, goodSettings, goodPlace, goodMachine, goodCommittee, goodBoundary, goodSeat, goodQuiet, mayHaveHalves, goodReshape, wellFormed}
+use Rattle.rules.specs.Table.{entry, Table, at}
+use Rattle.rules.specs.Board.{Settings, Boundary, Rotation, Seat, Reshape, Board, mostMachines, mostCommittees, mostBounds, mostReshapes, mostSeats, mostHalf, lastEpoch, lastStamp, onSettings, onMachines, onCommittees, onBounds, onRotations, onReshapes}
+use Rattle.rules.specs.WellFormed.{isShard, isTarget, isStamp, goodOption, goodSettings, goodMachine, goodCommittee, goodBoundary, goodSeat, goodQuiet, mayHaveHalves, goodReshape, wellFormed}
 use Rattle.rules.specs.Moves.{withSeats, withQuiet, withDrainBy, withTerminal}
-use Rattle.rules.proofs.Tests.{and-parts, and-joins, or-left, or-right, all-parts, all-joins, le-of, of-le}
+use Rattle.rules.proofs.Tests.{and-parts, and-joins, all-parts, all-joins, le-of, of-le}
 use Rattle.rules.proofs.KeptLists.{Ids, ids-of, of-ids, Rota, rota-of, of-rota}
 use Rattle.rules.proofs.KeptTables.{Rows, rows-of, of-rows}
 

@@ -3,31 +3,32 @@ use mathlib.Core.Path.{_≡_, refl, sym, _∙_}
 use mathlib.Core.Logic.{_≢_, _⊎_, inl, inr}
 use mathlib.Core.List.{List, [], _∷_, _++_, append-nil}
 use mathlib.Core.Option.{Option, none, some}
-use mathlib.Core.Bool.{Bool, true, false, cond, not, false≢true, true≢false}
-use Prim.Native.Nat.{ℕ, suc, _+_, _*_, _≤_, _<_}
+use mathlib.Core.Bool.{Bool, true, false, cond, false≢true, true≢false}
+use Prim.Native.Nat.{ℕ, _+_, _≤_}
 use native.Mathlib.Omega.{arith}
 use lib.Dec.{eqb, leb}
 use lib.ListN.{length, length-append}
 use Rattle.types.specs.Numbers.{Shard, Id, Epoch, Height}
 use Rattle.types.specs.Shards.{leftOf, rightOf}
 use Rattle.types.specs.Places.{isSeatedOn, isObserving, pooled, movedTo, keptOn, seatedFromWatch}
+use Rattle.types.specs.declared.ShardId.{ShardId}
+use Rattle.types.specs.declared.Epoch.{Epoch as Stamp}
 use Rattle.types.specs.declared.Place.{Place}
 use Rattle.types.specs.declared.Place.the-variants.{Pooled, Seated, Observing, Short, Other}
-use Rattle.rules.specs.Lists.{_and_, _or_}
-use Rattle.rules.specs.Table.{Entry, entry, Table, at, put, update, keysOf}
-use Rattle.rules.specs.Board.{Boundary, Kind, split, merge, Seat, Reshape, Board, mostCommittees, mostMembers, mostBounds, mostSeats, mostHalf, epochOf}
+use Rattle.rules.specs.Lists.{_or_}
+use Rattle.rules.specs.Table.{entry, Table, at, put, update, keysOf}
+use Rattle.rules.specs.Board.{Boundary, Kind, split, merge, Seat, Reshape, Board, mostCommittees, mostMembers, mostSeats, mostHalf, epochOf}
 use Rattle.rules.specs.WellFormed.{isShard, isTarget, isWord, isStamp, goodOption, goodCommittee, goodBoundary}
 use Rattle.rules.specs.Moves.{says, membersOf, place, join, putOn, forAll, newBoundary, heightOf}
-use Rattle.rules.specs.Turns.{Turn, finished}
 use Rattle.rules.specs.Cut.{recast, fits, cutFaults, settle, cohortFor, settleChild, cutSplitOf, cutSplit, cutSplits, others, rejoin, larger, cutMergeOf, cutMerge, cutMerges}
 use Rattle.rules.proofs.Counts.{Alike, same, apart, alike, eqb-same, eqb-apart, hit, hit-apart, occ, occ-nil, occ-append, occ-single}
 use Rattle.rules.proofs.Tables.{at-put}
 use Rattle.rules.proofs.Tests.{and-parts, and-joins, or-cases, all-parts, all-joins, eq-of, le-of, lt-of-no}
-use Rattle.rules.proofs.KeptLists.{by-cases, Ids, Ids-none, Ids-join, of-ids, Rota-dropRotations}
-use Rattle.rules.proofs.KeptTables.{Rows, Rows-within, Rows-put, Rows-remove, length-replace, length-keysWhere, holds-at, at-update, at-other, holds-same}
-use Rattle.rules.proofs.KeptBoard.{Family, family, Fit, Good, fit-at, stamp, stamp-now}
-use Rattle.rules.proofs.KeptMoves.{Keeps, keeps-pooled, keeps-movedTo, keeps-keptOn, keeps-seatedFromWatch, good-place, machine-at, members-at, members-good, members-putOn, elsewhere-putOn, Joins, joins, good-putOn, Joins-putOn, forAll-keeps, forAll-counts}
-use Rattle.rules.proofs.KeptTurns.{of-no, Finishes, checked-finishes, batch-keeps}
+use Rattle.rules.proofs.KeptLists.{by-cases, Ids-none, Ids-join, of-ids, Rota-dropRotations}
+use Rattle.rules.proofs.KeptTables.{Rows-within, Rows-put, Rows-remove, length-replace, length-keysWhere, holds-at, at-update, at-other, holds-same}
+use Rattle.rules.proofs.KeptBoard.{family, Fit, Good, fit-at, stamp, stamp-now}
+use Rattle.rules.proofs.KeptMoves.{Keeps, keeps-pooled, keeps-movedTo, keeps-keptOn, keeps-seatedFromWatch, good-place, machine-at, members-at, members-putOn, elsewhere-putOn, Joins, joins, good-putOn, Joins-putOn, forAll-keeps, forAll-counts}
+use Rattle.rules.proofs.KeptTurns.{of-no, Finishes, checked-finishes, reshape-finishes, batch-keeps}
 
 -- ---- the tables at a cut
 
@@ -85,11 +86,7 @@ height-word {b} h s = go (at s (b .bounds)) refl
     go (some v) e = all-parts _ (h .bounds .each-good s v e) .1 .0
 
 larger-word : (m n : Height) → isWord m ≡ true → isWord n ≡ true → isWord (larger m n) ≡ true
-larger-word m n p q = go (leb m n)
-  where
-    go : (c : Bool) → isWord (cond c n m) ≡ true
-    go true = q
-    go false = p
+larger-word m n p q = by-cases (λ k. isWord k ≡ true) (leb m n) n m (λ e. q) (λ e. p)
 
 -- ---- a new committee filled: whoever is in it is seated there, so nobody comes twice
 
@@ -157,12 +154,13 @@ arrive {a} {b} {c} x l p move e v s = record {
 
 -- ---- CUT SPLITS
 
-moved : (c t : Shard) (p : Place) → c ≢ t → isShard c ≡ true → isSeatedOn t p ≡ true → Arrives c (movedTo c) p
-moved c t Pooled n ok h = absurd (false≢true h)
-moved c t (Seated s r w) n ok h = record { keeps = keeps-movedTo c ok; before = eqb-apart (s .0) c (λ e. n (sym e ∙ eq-of (s .0) t h)); after = eqb-same c }
-moved c t (Observing s w) n ok h = absurd (false≢true h)
-moved c t Short n ok h = absurd (false≢true h)
-moved c t (Other m) n ok h = absurd (false≢true h)
+-- one seated elsewhere
+from-seat : (c t : Shard) (move : Place → Place) (p : Place) → c ≢ t → Keeps move → ((s : ShardId) (r : Bool) (w : Stamp) → isSeatedOn c (move (Seated s r w)) ≡ true) → isSeatedOn t p ≡ true → Arrives c move p
+from-seat c t move Pooled n k m h = absurd (false≢true h)
+from-seat c t move (Seated s r w) n k m h = record { keeps = k; before = eqb-apart (s .0) c (λ e. n (sym e ∙ eq-of (s .0) t h)); after = m s r w }
+from-seat c t move (Observing s w) n k m h = absurd (false≢true h)
+from-seat c t move Short n k m h = absurd (false≢true h)
+from-seat c t move (Other m) n k l h = absurd (false≢true h)
 
 watched : (c : Shard) (ready : Bool) (e : Epoch) (p : Place) → isShard c ≡ true → isStamp e ≡ true → isObserving p ≡ true → Arrives c (seatedFromWatch c ready e) p
 watched c ready e Pooled ok w h = absurd (false≢true h)
@@ -186,7 +184,7 @@ settle-keeps a t c seats n x l b s = go (at x (b .machines)) refl
           (elim (at x seats) [ none ↦ b | some q ↦ cond (isObserving p) (putOn c (seatedFromWatch c (q .ready) (epochOf b)) x b) b ])
     ])
     go none e = pass x l s
-    go (some p) e = by-cases (Settling a c l) (isSeatedOn t p) _ _ (λ u. arrive x l p _ e (moved c t p n (s .shard) u) s) (λ u. look p e (at x seats))
+    go (some p) e = by-cases (Settling a c l) (isSeatedOn t p) _ _ (λ u. arrive x l p _ e (from-seat c t (movedTo c) p n (keeps-movedTo c (s .shard)) (λ q r w. eqb-same c) u) s) (λ u. look p e (at x seats))
 
 good-settleChild : (t c : Shard) (half : List Id) (seats : Table Seat) (b : Board) → c ≢ t → isShard c ≡ true → length half ≤ mostHalf → length seats ≤ mostSeats → at c (b .committees) ≡ some [] → Good b → Settling b c [] (settleChild t c half seats b)
 unfolding settleChild cohortFor
@@ -207,31 +205,17 @@ cut-split-finishes t r draws b f h =
 
 pub good-cutSplits : (b : Board) → Good b → Good (cutSplits b .board)
 unfolding cutSplits cutSplit
-good-cutSplits b h = batch-keeps Good cutSplit _ (λ t o. turn t) [] b h
-  where
-    turn : (t : Shard) (draws : List ℕ) (c : Board) → Good c → Finishes Good (cutSplit t draws c)
-    turn t draws c g = go (at t (c .reshapes)) refl
-      where
-        go : (o : Option Reshape) → at t (c .reshapes) ≡ o → Finishes Good (elim o [ none ↦ finished 0 draws c | some r ↦ cutSplitOf t r draws c ])
-        go none e = g
-        go (some r) e = cut-split-finishes t r draws c (fit-at g t r e) g
+good-cutSplits b h = batch-keeps Good cutSplit _ (λ t o draws c g. reshape-finishes Good t _ draws c g (λ r e. cut-split-finishes t r draws c (fit-at g t r e) g)) [] b h
 
 -- ---- CUT MERGES
-
-kept : (c t : Shard) (ready : Bool) (p : Place) → c ≢ t → isShard c ≡ true → isSeatedOn t p ≡ true → Arrives c (keptOn c ready) p
-kept c t ready Pooled n ok h = absurd (false≢true h)
-kept c t ready (Seated s r w) n ok h = record { keeps = keeps-keptOn c ok ready; before = eqb-apart (s .0) c (λ e. n (sym e ∙ eq-of (s .0) t h)); after = eqb-same c }
-kept c t ready (Observing s w) n ok h = absurd (false≢true h)
-kept c t ready Short n ok h = absurd (false≢true h)
-kept c t ready (Other m) n ok h = absurd (false≢true h)
 
 rejoin-keeps : (a : Board) (t : Shard) (keepers : Table Seat) → 1 ≤ t → (x : Id) (l : List Id) (b : Board) → Settling a t (x ∷ l) b → Settling a t l (rejoin t keepers x b)
 unfolding rejoin
 rejoin-keeps a t keepers m x l b s = go (at x (b .machines)) refl
   where
     from : (p : Place) (q : Seat) → (isSeatedOn (leftOf t) p ≡ true) ⊎ (isSeatedOn (rightOf t) p ≡ true) → Arrives t (keptOn t (q .ready)) p
-    from p q (inl u) = kept t (leftOf t) (q .ready) p (omega arith) (s .shard) u
-    from p q (inr u) = kept t (rightOf t) (q .ready) p (omega arith) (s .shard) u
+    from p q (inl u) = from-seat t (leftOf t) (keptOn t (q .ready)) p (omega arith) (keeps-keptOn t (s .shard) (q .ready)) (λ v r w. eqb-same t) u
+    from p q (inr u) = from-seat t (rightOf t) (keptOn t (q .ready)) p (omega arith) (keeps-keptOn t (s .shard) (q .ready)) (λ v r w. eqb-same t) u
 
     look : (p : Place) → at x (b .machines) ≡ some p → (o : Option Seat) → Settling a t l (elim o [ none ↦ b | some q ↦ cond (isSeatedOn (leftOf t) p or isSeatedOn (rightOf t) p) (putOn t (keptOn t (q .ready)) x b) b ])
     look p e none = pass x l s
@@ -268,11 +252,4 @@ cut-merge-finishes t r draws b f h =
 
 pub good-cutMerges : (b : Board) → Good b → Good (cutMerges b .board)
 unfolding cutMerges cutMerge
-good-cutMerges b h = batch-keeps Good cutMerge _ (λ t o. turn t) [] b h
-  where
-    turn : (t : Shard) (draws : List ℕ) (c : Board) → Good c → Finishes Good (cutMerge t draws c)
-    turn t draws c g = go (at t (c .reshapes)) refl
-      where
-        go : (o : Option Reshape) → at t (c .reshapes) ≡ o → Finishes Good (elim o [ none ↦ finished 0 draws c | some r ↦ cutMergeOf t r draws c ])
-        go none e = g
-        go (some r) e = cut-merge-finishes t r draws c (fit-at g t r e) g
+good-cutMerges b h = batch-keeps Good cutMerge _ (λ t o draws c g. reshape-finishes Good t _ draws c g (λ r e. cut-merge-finishes t r draws c (fit-at g t r e) g)) [] b h

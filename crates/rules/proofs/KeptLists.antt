@@ -3,17 +3,16 @@ use mathlib.Core.Path.{_≡_, refl, ap, sym, _∙_}
 use mathlib.Core.Logic.{_⊎_, inl, inr}
 use mathlib.Core.List.{List, [], _∷_, _++_}
 use mathlib.Core.Bool.{Bool, true, false, cond, not, true≢false}
-use Prim.Native.Nat.{ℕ, zero, suc, _+_, _*_, _≤_, _<_}
+use Prim.Native.Nat.{ℕ, suc, _+_, _≤_, _<_}
 use native.Mathlib.Omega.{arith}
 use lib.Dec.{eqb, leb, ltb}
-use lib.ListN.{length, take, drop, take-append-drop, length-append, length-take, length-drop}
+use lib.ListN.{length, take, drop, take-append-drop, length-append}
 use Rattle.types.specs.Numbers.{Shard, Id}
-use Rattle.rules.specs.Lists.{_and_, _or_, allOf, every, any, keep, has, distinct, strike, insert, sort}
+use Rattle.rules.specs.Lists.{_and_, _or_, every, any, keep, has, distinct, strike, insert, sort}
 use Rattle.rules.specs.Board.{Rotation, mostRotations}
 use Rattle.rules.specs.WellFormed.{isWord, rising, goodList, goodIds, goodRotation, rotationBefore}
-use Rattle.rules.specs.Draws.{drew, shuffle}
 use Rattle.rules.specs.Moves.{hasParty, isOn, openRotation, dropFirst, dropRotations}
-use Rattle.rules.proofs.Counts.{Alike, same, apart, alike, eqb-same, hit, hit-same, hit-apart, occ, occ-nil, occ-append, occ-single, occ-take, occ-keep, occ-strike, shuffle-keeps}
+use Rattle.rules.proofs.Counts.{Alike, same, apart, alike, hit, hit-same, hit-apart, occ, occ-nil, occ-append, occ-single}
 use Rattle.rules.proofs.Tests.{and-parts, and-joins, or-cases, or-left, or-right, all-parts, all-joins, of-not, not-of, le-of, of-le, lt-of-no, eq-of, of-eq, every-parts, every-join, every-none, every-weaken, every-has, has-every, has-occ}
 
 -- what holds of both branches, each where it is taken
@@ -26,49 +25,52 @@ unfolding _or_
 or-none true b h = absurd (true≢false h)
 or-none false b h = (refl, h)
 
--- ---- sublists
+-- ---- parts of a list: some of it, in its order
 
 module _ {A : Type 0} where
-  pub length-keep : (f : A → Bool) (l : List A) → length (keep f l) ≤ length l
-  unfolding keep
-  length-keep f [] = omega arith
-  length-keep f (x ∷ l) = go (f x) (length-keep f l)
-    where
-      go : (c : Bool) → length (keep f l) ≤ length l → length (cond c (x ∷ keep f l) (keep f l)) ≤ suc (length l)
-      go true h = omega arith
-      go false h = omega arith
+  pub data Part : List A → List A → Type 0 where
+    end : Part [] []
+    kept : {x : A} {k l : List A} → Part k l → Part (x ∷ k) (x ∷ l)
+    gone : {x : A} {k l : List A} → Part k l → Part k (x ∷ l)
 
-  pub every-keep : (g f : A → Bool) (l : List A) → every g l ≡ true → every g (keep f l) ≡ true
+  pub part-all : (l : List A) → Part l l
+  part-all [] = end
+  part-all (x ∷ l) = kept (part-all l)
+
+  pub part-keep : (f : A → Bool) (l : List A) → Part (keep f l) l
   unfolding keep
-  every-keep g f [] h = h
-  every-keep g f (x ∷ l) h = go (f x) (every-keep g f l (every-parts _ _ _ h .1))
-    where
-      go : (c : Bool) → every g (keep f l) ≡ true → every g (cond c (x ∷ keep f l) (keep f l)) ≡ true
-      go true k = every-join _ _ _ (every-parts _ _ _ h .0) k
-      go false k = k
+  part-keep f [] = end
+  part-keep f (x ∷ l) = by-cases (λ k. Part k (x ∷ l)) (f x) (x ∷ keep f l) (keep f l) (λ e. kept (part-keep f l)) (λ e. gone (part-keep f l))
+
+  pub part-length : {k l : List A} → Part k l → length k ≤ length l
+  part-length end = omega arith
+  part-length (kept p) = let h = part-length p in omega arith
+  part-length (gone p) = let h = part-length p in omega arith
+
+  pub part-every : (g : A → Bool) {k l : List A} → Part k l → every g l ≡ true → every g k ≡ true
+  part-every g end h = h
+  part-every g (kept p) h = every-join _ _ _ (every-parts _ _ _ h .0) (part-every g p (every-parts _ _ _ h .1))
+  part-every g (gone p) h = part-every g p (every-parts _ _ _ h .1)
+
+pub part-occ : (x : ℕ) {k l : List ℕ} → Part k l → occ x k ≤ occ x l
+unfolding occ
+part-occ x end = omega arith
+part-occ x (kept p) = let h = part-occ x p in omega arith
+part-occ x (gone p) = let h = part-occ x p in omega arith
 
 pub occ-drop : (x k : ℕ) (l : List ℕ) → occ x (drop k l) ≤ occ x l
 occ-drop x k l =
     let e : occ x (take k l) + occ x (drop k l) ≡ occ x l = sym (occ-append x (take k l) (drop k l)) ∙ rw take-append-drop in
     omega arith
 
-pub occ-kept : (f : ℕ → Bool) (x : ℕ) (l : List ℕ) → occ x (keep f l) ≤ occ x l
-occ-kept f x l = rw (occ-keep f x l) (go (f x))
-  where
-    go : (c : Bool) → cond c (occ x l) 0 ≤ occ x l
-    go true = omega arith
-    go false = omega arith
-
 -- ---- sorting
 
 occ-insert : (x y : ℕ) (l : List ℕ) → occ x (insert y l) ≡ hit x y + occ x l
 unfolding insert occ
 occ-insert x y [] = refl
-occ-insert x y (z ∷ l) = go (leb y z) (occ-insert x y l)
-  where
-    go : (c : Bool) → occ x (insert y l) ≡ hit x y + occ x l → occ x (cond c (y ∷ z ∷ l) (z ∷ insert y l)) ≡ hit x y + (hit x z + occ x l)
-    go true h = refl
-    go false h = omega arith
+occ-insert x y (z ∷ l) =
+    let h = occ-insert x y l in
+    by-cases (λ k. occ x k ≡ hit x y + (hit x z + occ x l)) (leb y z) (y ∷ z ∷ l) (z ∷ insert y l) (λ e. refl) (λ e. omega arith)
 
 pub occ-sort : (x : ℕ) (l : List ℕ) → occ x (sort l) ≡ occ x l
 unfolding sort occ
@@ -78,11 +80,7 @@ occ-sort x (y ∷ l) = occ-insert x y (sort l) ∙ ap (λ n. hit x y + n) (occ-s
 length-insert : (y : ℕ) (l : List ℕ) → length (insert y l) ≡ suc (length l)
 unfolding insert
 length-insert y [] = refl
-length-insert y (z ∷ l) = go (leb y z) (length-insert y l)
-  where
-    go : (c : Bool) → length (insert y l) ≡ suc (length l) → length (cond c (y ∷ z ∷ l) (z ∷ insert y l)) ≡ suc (suc (length l))
-    go true h = refl
-    go false h = ap suc h
+length-insert y (z ∷ l) = by-cases (λ k. length k ≡ suc (suc (length l))) (leb y z) (y ∷ z ∷ l) (z ∷ insert y l) (λ e. refl) (λ e. ap suc (length-insert y l))
 
 pub length-sort : (l : List ℕ) → length (sort l) ≡ length l
 unfolding sort
@@ -131,7 +129,9 @@ Ids-part h r o = record { room = r; words = λ x w. h .words x (omega (arith, o 
 
 pub Ids-strike : (x : Id) {most : ℕ} {l : List Id} → Ids most l → Ids most (strike x l)
 unfolding strike
-Ids-strike x {most} {l} h = Ids-part h (omega (arith, length-keep (λ y. not (eqb y x)) l, h .room)) (λ y. occ-kept (λ z. not (eqb z x)) y l)
+Ids-strike x {most} {l} h =
+    let p = part-keep (λ y. not (eqb y x)) l in
+    Ids-part h (omega (arith, part-length p, h .room)) (λ y. part-occ y p)
 
 -- one more at the end, that is not there yet
 pub Ids-join : {most : ℕ} {l : List Id} (x : Id) → Ids most l → isWord x ≡ true → occ x l ≡ 0 → length l < most → Ids most (l ++ (x ∷ []))
@@ -226,68 +226,37 @@ sorted-rising [] h = refl
 sorted-rising (r ∷ []) h = refl
 sorted-rising (r ∷ q ∷ l) h = and-joins _ _ (every-parts _ _ _ (h .0) .0) (sorted-rising (q ∷ l) (h .1))
 
-sorted-keep : (f : Rotation → Bool) (l : List Rotation) → Sorted l → Sorted (keep f l)
-unfolding keep Sorted
-sorted-keep f [] h = tt
-sorted-keep f (r ∷ l) h = go (f r) (sorted-keep f l (h .1))
-  where
-    go : (c : Bool) → Sorted (keep f l) → Sorted (cond c (r ∷ keep f l) (keep f l))
-    go true k = (every-keep _ f l (h .0), k)
-    go false k = k
+sorted-part : {k l : List Rotation} → Part k l → Sorted l → Sorted k
+unfolding Sorted
+sorted-part end h = tt
+sorted-part (kept p) h = (part-every _ p (h .0), sorted-part p (h .1))
+sorted-part (gone p) h = sorted-part p (h .1)
 
-every-dropFirst : (g f : Rotation → Bool) (l : List Rotation) → every g l ≡ true → every g (dropFirst f l) ≡ true
+part-dropFirst : (f : Rotation → Bool) (l : List Rotation) → Part (dropFirst f l) l
 unfolding dropFirst
-every-dropFirst g f [] h = h
-every-dropFirst g f (r ∷ l) h = go (f r) (every-dropFirst g f l (every-parts _ _ _ h .1))
-  where
-    go : (c : Bool) → every g (dropFirst f l) ≡ true → every g (cond c l (r ∷ dropFirst f l)) ≡ true
-    go true k = every-parts _ _ _ h .1
-    go false k = every-join _ _ _ (every-parts _ _ _ h .0) k
-
-sorted-dropFirst : (f : Rotation → Bool) (l : List Rotation) → Sorted l → Sorted (dropFirst f l)
-unfolding dropFirst Sorted
-sorted-dropFirst f [] h = tt
-sorted-dropFirst f (r ∷ l) h = go (f r) (sorted-dropFirst f l (h .1))
-  where
-    go : (c : Bool) → Sorted (dropFirst f l) → Sorted (cond c l (r ∷ dropFirst f l))
-    go true k = h .1
-    go false k = (every-dropFirst _ f l (h .0), k)
-
-length-dropFirst : (f : Rotation → Bool) (l : List Rotation) → length (dropFirst f l) ≤ length l
-unfolding dropFirst
-length-dropFirst f [] = omega arith
-length-dropFirst f (r ∷ l) = go (f r) (length-dropFirst f l)
-  where
-    go : (c : Bool) → length (dropFirst f l) ≤ length l → length (cond c l (r ∷ dropFirst f l)) ≤ suc (length l)
-    go true h = omega arith
-    go false h = omega arith
+part-dropFirst f [] = end
+part-dropFirst f (r ∷ l) = by-cases (λ k. Part k (r ∷ l)) (f r) l (r ∷ dropFirst f l) (λ e. gone (part-all l)) (λ e. kept (part-dropFirst f l))
 
 every-open : (g : Rotation → Bool) (r : Rotation) (l : List Rotation) → g r ≡ true → every g l ≡ true → every g (openRotation r l) ≡ true
 unfolding openRotation
 every-open g r [] p h = every-join _ _ _ p h
-every-open g r (q ∷ l) p h = go (rotationBefore r q) (every-open g r l p (every-parts _ _ _ h .1))
-  where
-    go : (c : Bool) → every g (openRotation r l) ≡ true → every g (cond c (r ∷ q ∷ l) (q ∷ openRotation r l)) ≡ true
-    go true k = every-join _ _ _ p h
-    go false k = every-join _ _ _ (every-parts _ _ _ h .0) k
+every-open g r (q ∷ l) p h =
+    let k = every-parts _ _ _ h in
+    by-cases (λ m. every g m ≡ true) (rotationBefore r q) (r ∷ q ∷ l) (q ∷ openRotation r l) (λ e. every-join _ _ _ p h) (λ e. every-join _ _ _ (k .0) (every-open g r l p (k .1)))
 
 length-open : (r : Rotation) (l : List Rotation) → length (openRotation r l) ≡ suc (length l)
 unfolding openRotation
 length-open r [] = refl
-length-open r (q ∷ l) = go (rotationBefore r q) (length-open r l)
-  where
-    go : (c : Bool) → length (openRotation r l) ≡ suc (length l) → length (cond c (r ∷ q ∷ l) (q ∷ openRotation r l)) ≡ suc (suc (length l))
-    go true h = refl
-    go false h = ap suc h
+length-open r (q ∷ l) = by-cases (λ m. length m ≡ suc (suc (length l))) (rotationBefore r q) (r ∷ q ∷ l) (q ∷ openRotation r l) (λ e. refl) (λ e. ap suc (length-open r l))
 
 sorted-open : (r : Rotation) (l : List Rotation) → any (hasParty (r .shard) (r .victim)) l ≡ false → Sorted l → Sorted (openRotation r l)
 unfolding openRotation Sorted any
 sorted-open r [] n h = (every-none _, tt)
-sorted-open r (q ∷ l) n h = go (rotationBefore r q) refl (sorted-open r l (or-none _ _ n .1) (h .1))
-  where
-    go : (c : Bool) → rotationBefore r q ≡ c → Sorted (openRotation r l) → Sorted (cond c (r ∷ q ∷ l) (q ∷ openRotation r l))
-    go true e k = (every-join _ _ _ e (every-weaken _ _ (λ x. before-trans r q x e) l (h .0)), h)
-    go false e k = (every-open _ r l (before-other q r (or-none _ _ n .0) e) (h .0), k)
+sorted-open r (q ∷ l) n h =
+    let u = or-none _ _ n in
+    by-cases Sorted (rotationBefore r q) (r ∷ q ∷ l) (q ∷ openRotation r l)
+    (λ e. (every-join _ _ _ e (every-weaken _ _ (λ x. before-trans r q x e) l (h .0)), h))
+    (λ e. (every-open _ r l (before-other q r (u .0) e) (h .0), sorted-open r l (u .1) (h .1)))
 
 -- what `goodList` says of rotations
 pub record Rota (l : List Rotation) : Type 0 where
@@ -303,14 +272,15 @@ pub of-rota : {l : List Rotation} → Rota l → goodList mostRotations goodRota
 unfolding goodList
 of-rota {l} h = all-joins _ (of-le _ _ (h .room), (h .each-good, (sorted-rising l (h .sorted), tt)))
 
+pub Rota-part : {k l : List Rotation} → Part k l → Rota l → Rota k
+Rota-part p h = record { room = omega (arith, part-length p, h .room); each-good = part-every _ p (h .each-good); sorted = sorted-part p (h .sorted) }
+
 pub Rota-dropFirst : (f : Rotation → Bool) {l : List Rotation} → Rota l → Rota (dropFirst f l)
-Rota-dropFirst f {l} h = record { room = omega (arith, length-dropFirst f l, h .room); each-good = every-dropFirst _ f l (h .each-good); sorted = sorted-dropFirst f l (h .sorted) }
+Rota-dropFirst f {l} = Rota-part (part-dropFirst f l)
 
 pub Rota-dropRotations : (s : Shard) {l : List Rotation} → Rota l → Rota (dropRotations s l)
 unfolding dropRotations
-Rota-dropRotations s {l} h =
-    let f : Rotation → Bool = λ r. not (isOn s r) in
-    record { room = omega (arith, length-keep f l, h .room); each-good = every-keep _ f l (h .each-good); sorted = sorted-keep f l (h .sorted) }
+Rota-dropRotations s {l} = Rota-part (part-keep (λ r. not (isOn s r)) l)
 
 -- one more, whose victim is no party of a rotation on its shard
 pub Rota-open : (r : Rotation) {l : List Rotation} → goodRotation r ≡ true → any (hasParty (r .shard) (r .victim)) l ≡ false → length l < mostRotations → Rota l → Rota (openRotation r l)

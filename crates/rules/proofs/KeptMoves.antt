@@ -1,28 +1,28 @@
 -- Moves that keep a board good.
-use mathlib.Core.Path.{_≡_, refl, ap, sym, subst, _∙_}
+use mathlib.Core.Path.{_≡_, refl, sym, _∙_}
 use mathlib.Core.Logic.{_≢_, _⊎_, inl, inr}
 use mathlib.Core.List.{List, [], _∷_, _++_}
-use mathlib.Core.Option.{Option, none, some, Option·none-ne-some}
-use mathlib.Core.Bool.{Bool, true, false, cond, not, false≢true}
-use Prim.Native.Nat.{ℕ, zero, suc, _+_, _*_, _≤_, _<_}
+use mathlib.Core.Option.{Option, none, some}
+use mathlib.Core.Bool.{Bool, true, false, not, false≢true}
+use Prim.Native.Nat.{ℕ, _+_, _≤_, _<_}
 use native.Mathlib.Omega.{arith}
-use lib.Dec.{eqb, leb, ltb}
+use lib.Dec.{leb, ltb}
 use lib.ListN.{length, length-append}
 use Rattle.types.specs.Numbers.{Shard, Id, Epoch}
 use Rattle.types.specs.Places.{isSeatedOn, pooled, short, drawnTo, setToWatch, movedTo, keptOn, seatedFromWatch, madeReady}
 use Rattle.types.specs.declared.Place.{Place}
 use Rattle.types.specs.declared.Place.the-variants.{Pooled, Seated, Observing, Short, Other}
-use Rattle.rules.specs.Lists.{_and_, _or_, every, has, strike}
-use Rattle.rules.specs.Table.{Entry, entry, Table, at, stands, put, remove, update, keysWhere, isSome}
-use Rattle.rules.specs.Board.{Boundary, Rotation, Kind, Seat, Reshape, Board, mostCommittees, mostMembers, onMachines, onCommittees, onBounds, onRotations, onReshapes, epochOf}
-use Rattle.rules.specs.WellFormed.{isShard, isWord, isStamp, goodIds, goodOption, goodPlace, goodMachine, goodCommittee, goodBoundary}
+use Rattle.rules.specs.Lists.{_or_, every, has, strike}
+use Rattle.rules.specs.Table.{Table, at, stands, put, remove, update, isSome}
+use Rattle.rules.specs.Board.{Kind, Reshape, Board, mostCommittees, mostMembers, onBounds, onReshapes}
+use Rattle.rules.specs.WellFormed.{isShard, isWord, isStamp, goodOption, goodPlace, goodMachine, goodCommittee, goodBoundary}
 use Rattle.rules.specs.Moves.{membersOf, place, join, quit, putOn, takeOff, forAll, pooledFrom, mayJoin, entrantsOn, dropRotations, abortRotations, withSeats, isKind, giveUpSeat, markedBoundary}
-use Rattle.rules.proofs.Counts.{occ, occ-nil, occ-append, occ-single, hit-same}
-use Rattle.rules.proofs.Tables.{at-put, at-each}
-use Rattle.rules.proofs.Tests.{and-parts, and-joins, or-cases, all-parts, all-joins, of-not, le-of, of-le, lt-of-no, every-has, has-occ}
-use Rattle.rules.proofs.Counts.{eqb-same, eqb-apart, occ-nil, hit}
-use Rattle.rules.proofs.KeptLists.{Ids, Ids-none, ids-of, of-ids, Ids-strike, Ids-join, Rota-dropRotations}
-use Rattle.rules.proofs.KeptTables.{Rows, Rows-within, Rows-put, Rows-remove, Rows-update, length-put, length-replace}
+use Rattle.rules.proofs.Counts.{occ, occ-append, occ-single, hit-same}
+use Rattle.rules.proofs.Tables.{at-put}
+use Rattle.rules.proofs.Tests.{and-parts, and-joins, or-cases, all-parts, all-joins, of-not, le-of, lt-of-no, every-has, has-occ}
+use Rattle.rules.proofs.Counts.{eqb-same, eqb-apart}
+use Rattle.rules.proofs.KeptLists.{by-cases, Ids, Ids-none, ids-of, of-ids, Ids-strike, Ids-join, Rota-dropRotations}
+use Rattle.rules.proofs.KeptTables.{Rows-within, Rows-put, Rows-remove, Rows-update, length-put, length-replace}
 use Rattle.rules.proofs.KeptBoard.{Fit, fit-of, of-fit, Fit-seats, Good, on-machines, on-committees, on-bounds, on-rotations, on-reshapes}
 
 -- ---- places: a move that gives a good place for a good one
@@ -39,11 +39,7 @@ unfolding goodPlace
 keeps-short p h = refl
 
 pub keeps-pooledFrom : (there : Place → Bool) → Keeps (pooledFrom there)
-keeps-pooledFrom there p h = go (there p)
-  where
-    go : (c : Bool) → goodPlace (cond c (pooled p) p) ≡ true
-    go true = keeps-pooled p h
-    go false = h
+keeps-pooledFrom there p h = by-cases (λ q. goodPlace q ≡ true) (there p) (pooled p) p (λ e. keeps-pooled p h) (λ e. h)
 
 pub keeps-madeReady : Keeps madeReady
 unfolding goodPlace
@@ -238,11 +234,7 @@ good-reshape t f k h = on-reshapes h (update t f) (Rows-update t f (λ r e g. of
 
 pub good-giveUpSeat : {b : Board} (k : Kind) (t : Shard) (x : Id) → Good b → Good (giveUpSeat k t x b)
 unfolding giveUpSeat
-good-giveUpSeat k t x h = good-reshape t _ (λ r e f. go r (isKind k r) f) h
-  where
-    go : (r : Reshape) (c : Bool) → Fit t r → Fit t (cond c (withSeats (remove x) r) r)
-    go r true f = Fit-seats (remove x) (Rows-remove x (f .seats)) f
-    go r false f = f
+good-giveUpSeat k t x h = good-reshape t _ (λ r e f. by-cases (Fit t) (isKind k r) (withSeats (remove x) r) r (λ u. Fit-seats (remove x) (Rows-remove x (f .seats)) f) (λ u. f)) h
 
 -- a boundary marked
 pub good-marked : {b : Board} (s : Shard) (terminal admitted : Epoch) → isStamp terminal ≡ true → isStamp admitted ≡ true → Good b → Good (onBounds (update s (markedBoundary terminal admitted)) b)

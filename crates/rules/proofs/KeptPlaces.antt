@@ -1,10 +1,9 @@
 -- The steps on places and committees keep a board good.
 use mathlib.Core.Path.{_≡_, refl, sym, _∙_}
-use mathlib.Core.Logic.{_≢_}
 use mathlib.Core.List.{List, [], _∷_}
 use mathlib.Core.Option.{Option, none, some}
-use mathlib.Core.Bool.{Bool, true, false, cond, not}
-use Prim.Native.Nat.{ℕ, suc, _+_, _≤_, _<_}
+use mathlib.Core.Bool.{true, false, cond}
+use Prim.Native.Nat.{ℕ, _+_, _≤_}
 use native.Mathlib.Omega.{arith}
 use lib.Dec.{eqb, leb}
 use lib.ListN.{length}
@@ -15,18 +14,18 @@ use Rattle.types.specs.declared.Place.{Place}
 use Rattle.types.specs.declared.Place.the-variants.{Pooled, Seated, Observing, Short, Other}
 use Rattle.types.specs.declared.Answer.the-variants.{NoRecord}
 use Rattle.rules.specs.Table.{entry, at, each, holdsAt}
-use Rattle.rules.specs.Board.{Settings, Rotation, split, merge, Board, mostMembers, mostRotations, lastEpoch, onMachines, onRotations, epochOf}
+use Rattle.rules.specs.Board.{Settings, Rotation, split, merge, Board, mostMembers, mostRotations, lastEpoch, onRotations, epochOf}
 use Rattle.rules.specs.WellFormed.{isShard, isWord, goodSettings, goodPlace, goodMachine, goodRotation}
-use Rattle.rules.specs.Moves.{poolOf, place, join, putOn, takeOff, mayJoin, pooledFrom, hasParty, isParty, openRotation, dropFirst}
-use Rattle.rules.specs.Turns.{Turn, finished, refused}
+use Rattle.rules.specs.Moves.{poolOf, place, join, putOn, mayJoin, pooledFrom, hasParty, isParty, openRotation, dropFirst}
+use Rattle.rules.specs.Turns.{refused}
 use Rattle.rules.specs.Places.{nextEpoch, tick, isScheduledSplit, leaveSeat, leaveFromSeat, leaveFrom, leaveTurn, leave, mayRotate, victimFit, newRotation, rotateTurn, rotate, hasSeatsFree, isRotation, retire, close, resolved, resolve, isDue, timeOut}
 use Rattle.rules.proofs.Counts.{Alike, same, apart, alike, occ, occ-nil}
 use Rattle.rules.proofs.Tests.{and-parts, and-joins, all-parts, all-joins, of-not, of-le, lt-of-no}
-use Rattle.rules.proofs.KeptLists.{Ids, Ids-none, Ids-join, Rota-dropFirst, Rota-open}
+use Rattle.rules.proofs.KeptLists.{by-cases, Ids, Ids-none, Ids-join, Rota-dropFirst, Rota-open}
 use Rattle.rules.proofs.KeptTables.{Rows-each, at-keysWhere, at-holds}
 use Rattle.rules.proofs.KeptBoard.{limits, Good, on-settings, on-machines, on-rotations, stamp-now}
-use Rattle.rules.proofs.KeptMoves.{Keeps, keeps-short, keeps-pooledFrom, keeps-madeReady, keeps-drawnTo, good-place, machine-at, joins-of, good-putOn, good-takeOff, forAll-keeps, good-giveUpSeat}
-use Rattle.rules.proofs.KeptTurns.{of-no, Finishes, checked-finishes, cond-finishes, alone-keeps, poolDraw-finishes}
+use Rattle.rules.proofs.KeptMoves.{keeps-short, keeps-pooledFrom, keeps-madeReady, keeps-drawnTo, good-place, machine-at, joins-of, good-putOn, good-takeOff, forAll-keeps, good-giveUpSeat}
+use Rattle.rules.proofs.KeptTurns.{of-no, Finishes, checked-finishes, step-keeps, poolDraw-finishes}
 
 -- ---- TICK
 
@@ -41,7 +40,7 @@ next-epoch s n h = all-joins _ (go (alike (s .epoch) lastEpoch), all-parts _ h .
 
 pub good-tick : (b : Board) → Good b → Good (tick b .board)
 unfolding tick
-good-tick b h = alone-keeps Good _ b _ h (checked-finishes Good _ _ (λ p. on-settings h nextEpoch (next-epoch (b .settings) (p .1 .0) (h .settings))))
+good-tick b h = step-keeps Good _ b _ _ h (λ p. on-settings h nextEpoch (next-epoch (b .settings) (p .1 .0) (h .settings)))
 
 -- ---- the draw from the pool
 
@@ -64,8 +63,8 @@ leave-seat-finishes : (s : Shard) (x : Id) (draws : List ℕ) (b : Board) → is
 unfolding leaveFromSeat
 leave-seat-finishes s x draws b ok h =
     let g = good-leaveSeat s x h in
-    cond-finishes Good (isParty s x b) _ _ (λ e. on-rotations g (dropFirst (hasParty s x)) (Rota-dropFirst (hasParty s x) (g .rotations)))
-    (λ e. cond-finishes Good (holdsAt s isScheduledSplit (b .reshapes)) _ _ (λ f. g)
+    by-cases (Finishes Good) (isParty s x b) _ _ (λ e. on-rotations g (dropFirst (hasParty s x)) (Rota-dropFirst (hasParty s x) (g .rotations)))
+    (λ e. by-cases (Finishes Good) (holdsAt s isScheduledSplit (b .reshapes)) _ _ (λ f. g)
     (λ f. poolDraw-finishes Good s false (λ y c. c) draws (leaveSeat s x b) g (λ y o m q. good-drawn g s ok y o m)))
 
 leave-finishes : (p : Place) (x : Id) (draws : List ℕ) (b : Board) → goodPlace p ≡ true → Good b → Finishes Good (leaveFrom p x draws b)
@@ -78,7 +77,7 @@ leave-finishes (Other m) x draws b g h = good-place x short keeps-short h
 
 pub good-leave : (x : Id) (draws : List ℕ) (b : Board) → Good b → Good (leave x draws b .board)
 unfolding leave leaveTurn
-good-leave x draws b h = alone-keeps Good _ b _ h (checked-finishes Good _ _ (λ p. go (at x (b .machines)) refl))
+good-leave x draws b h = step-keeps Good _ b _ _ h (λ p. go (at x (b .machines)) refl)
   where
     go : (o : Option Place) → at x (b .machines) ≡ o → Finishes Good (elim o [ none ↦ refused NoRecord | some p ↦ leaveFrom p x draws b ])
     go none e = tt
@@ -105,38 +104,31 @@ rotate-finishes s v draws b ok h = checked-finishes Good _ _ (λ p. poolDraw-fin
 pub good-rotate : (s : Shard) (v : Id) (draws : List ℕ) (b : Board) → Good b → Good (rotate s v draws b .board)
 unfolding rotate
 good-rotate s v draws b h =
-    alone-keeps Good _ b _ h (checked-finishes Good _ _ (λ p.
-    cond-finishes Good (mayRotate s b) _ _ (λ e. rotate-finishes s v draws b (of-no _ (p .1 .0)) h) (λ e. h)))
+    step-keeps Good _ b _ _ h (λ p.
+    by-cases (Finishes Good) (mayRotate s b) _ _ (λ e. rotate-finishes s v draws b (of-no _ (p .1 .0)) h) (λ e. h))
 
 -- ---- RESOLVE
 
-good-close : (r : Rotation) (b : Board) → Good b → Good (close r b)
-unfolding close retire
-good-close r b h = go (hasSeatsFree (r .shard) (onRotations (dropFirst (isRotation (r .shard) (r .victim))) b))
-  where
-    g : Good (onRotations (dropFirst (isRotation (r .shard) (r .victim))) b)
-    g = on-rotations h (dropFirst (isRotation (r .shard) (r .victim))) (Rota-dropFirst _ (h .rotations))
+good-retire : (s : Shard) (v : Id) (b : Board) → Good b → Good (retire s v b)
+unfolding retire
+good-retire s v b h = by-cases Good (hasSeatsFree s b) b _ (λ e. h) (λ e. good-takeOff s (pooledFrom (isSeatedOn s)) (keeps-pooledFrom (isSeatedOn s)) v h)
 
-    go : (c : Bool) → Good (cond c (onRotations (dropFirst (isRotation (r .shard) (r .victim))) b) (takeOff (r .shard) (pooledFrom (isSeatedOn (r .shard))) (r .victim) (onRotations (dropFirst (isRotation (r .shard) (r .victim))) b)))
-    go true = g
-    go false = good-takeOff (r .shard) (pooledFrom (isSeatedOn (r .shard))) (keeps-pooledFrom (isSeatedOn (r .shard))) (r .victim) g
+good-close : (r : Rotation) (b : Board) → Good b → Good (close r b)
+unfolding close
+good-close r b h = good-retire (r .shard) (r .victim) _ (on-rotations h (dropFirst (isRotation (r .shard) (r .victim))) (Rota-dropFirst _ (h .rotations)))
 
 pub good-resolve : (b : Board) → Good b → Good (resolve b .board)
 unfolding resolve
-good-resolve b h = alone-keeps Good _ b _ h (checked-finishes Good _ _ (λ p. forAll-keeps Good close good-close (resolved b) b h))
+good-resolve b h = step-keeps Good _ b _ _ h (λ p. forAll-keeps Good close good-close (resolved b) b h)
 
 -- ---- TIME OUT
 
 pub good-timeOut : (b : Board) → Good b → Good (timeOut b .board)
 unfolding timeOut goodMachine
-good-timeOut b h = alone-keeps Good _ b _ h (checked-finishes Good _ _ (λ p. on-machines h (each rule) (Rows-each rule due (h .machines))))
+good-timeOut b h = step-keeps Good _ b _ _ h (λ p. on-machines h (each rule) (Rows-each rule due (h .machines)))
   where
     rule : Id → Place → Place
     rule x p = cond (isDue b p) (madeReady p) p
 
-    ready : (c : Bool) (p : Place) → goodPlace p ≡ true → goodPlace (cond c (madeReady p) p) ≡ true
-    ready true p g = keeps-madeReady p g
-    ready false p g = g
-
     due : (x : Id) (p : Place) → at x (b .machines) ≡ some p → goodMachine (entry x p) ≡ true → goodMachine (entry x (rule x p)) ≡ true
-    due x p e g = and-joins _ _ (and-parts _ _ g .0) (ready (isDue b p) p (and-parts _ _ g .1))
+    due x p e g = and-joins _ _ (and-parts _ _ g .0) (by-cases (λ q. goodPlace q ≡ true) (isDue b p) (madeReady p) p (λ u. keeps-madeReady p (and-parts _ _ g .1)) (λ u. and-parts _ _ g .1))

@@ -3,28 +3,27 @@ use mathlib.Core.Path.{_≡_, refl, sym, subst, _∙_}
 use mathlib.Core.Logic.{_⊎_, inl, inr}
 use mathlib.Core.List.{List, [], _∷_, _++_, append-nil}
 use mathlib.Core.Option.{Option, none, some, Option·map, Option·none-ne-some, Option·some-injective}
-use mathlib.Core.Bool.{Bool, true, false, cond, not, false≢true}
-use Prim.Native.Nat.{ℕ, suc, _+_, _*_, _/_, _≤_, _<_}
+use mathlib.Core.Bool.{Bool, true, false, false≢true}
+use Prim.Native.Nat.{ℕ, suc, _+_, _/_, _≤_, _<_}
 use native.Mathlib.Omega.{arith}
-use lib.Dec.{eqb, leb}
+use lib.Dec.{eqb}
 use lib.ListN.{length, take, drop, length-take, take-append-drop}
 use Rattle.types.specs.Numbers.{Shard, Id}
 use Rattle.types.specs.Shards.{leftOf, rightOf}
 use Rattle.types.specs.Places.{isPooled, observes, setToWatch}
-use Rattle.rules.specs.Lists.{_and_, _or_, isEmpty, keep, sort}
-use Rattle.rules.specs.Table.{Entry, entry, Table, at, put, update, keysWhere}
-use Rattle.rules.specs.Board.{Kind, split, merge, Seat, Reshape, Board, mostMembers, mostReshapes, mostSeats, onReshapes, epochOf, sizeOf}
-use Rattle.rules.specs.WellFormed.{isTarget, isWord, goodOption, goodSeat, goodQuiet, mayHaveHalves}
-use Rattle.rules.specs.Draws.{drew, shuffle}
-use Rattle.rules.specs.Moves.{poolOf, membersOf, place, join, putOn, takeOff, forAll, pooledFrom, mayJoin, withSeats, isKind, newSeat, watch}
+use Rattle.rules.specs.Lists.{_and_, _or_, isEmpty, sort}
+use Rattle.rules.specs.Table.{entry, Table, at, put, update}
+use Rattle.rules.specs.Board.{Kind, split, merge, Seat, Reshape, Board, mostMembers, mostReshapes, mostSeats, epochOf, sizeOf}
+use Rattle.rules.specs.WellFormed.{isTarget, isWord, goodOption, goodSeat, goodQuiet}
+use Rattle.rules.specs.Moves.{poolOf, membersOf, place, join, putOn, forAll, pooledFrom, withSeats, isKind, newSeat, watch}
 use Rattle.rules.specs.Reshapes.{halfUp, newReshape, admit, admissionFaults, admitSplit, seatedMembers, keepersOf, seatAll, drawKeepers, admitMerge, readySeat, markSeatReady, hasSide, quieted, markQuiet, awaitsCohort, watchAll, cohortTurn, drawCohort, cohortOf, released, lapse}
 use Rattle.rules.proofs.Counts.{eqb-same, hit-same, occ, occ-append, occ-take}
-use Rattle.rules.proofs.Tests.{and-parts, and-joins, or-cases, or-left, or-right, of-not, not-of, eq-of, lt-of-no}
-use Rattle.rules.proofs.KeptLists.{Ids, Ids-none, Ids-part, occ-kept, occ-sort}
-use Rattle.rules.proofs.KeptTables.{Rows, Rows-none, Rows-within, Rows-put, Rows-update, length-put, once-keysWhere, at-holds, holds-at, at-update}
-use Rattle.rules.proofs.KeptBoard.{limits, Family, family, Fit, of-fit, Fit-seats, Fit-quiet, Good, on-reshapes, stamp-now}
+use Rattle.rules.proofs.Tests.{and-parts, and-joins, or-cases, or-left, or-right, of-not, eq-of, lt-of-no}
+use Rattle.rules.proofs.KeptLists.{Ids, Ids-none, part-keep, part-occ, occ-sort}
+use Rattle.rules.proofs.KeptTables.{Rows, Rows-none, Rows-within, Rows-put, Rows-update, length-put, once-keysWhere, holds-at, at-update}
+use Rattle.rules.proofs.KeptBoard.{limits, family, Fit, of-fit, Fit-seats, Fit-quiet, Good, on-reshapes, stamp-now}
 use Rattle.rules.proofs.KeptMoves.{Keeps, keeps-pooledFrom, keeps-setToWatch, members-good, Joins, joins-of, good-putOn, Joins-putOn, Joins-reshapes, good-takeOff, forAll-keeps, forAll-counts, good-reshape}
-use Rattle.rules.proofs.KeptTurns.{of-no, Draws, andThen-draws, Mixed, shuffle-draws, Finishes, checked-finishes, drawn-finishes, alone-keeps}
+use Rattle.rules.proofs.KeptTurns.{of-no, Draws, andThen-draws, Mixed, shuffle-draws, Finishes, checked-finishes, drawn-finishes, step-keeps}
 use Rattle.rules.proofs.KeptPlaces.{pool-word}
 
 -- ---- ADMISSIONS
@@ -45,7 +44,7 @@ admit-finishes k t handled seats draws b ok s h = checked-finishes Good _ _ (λ 
 
 pub good-admitSplit : (t : Shard) (b : Board) → Good b → Good (admitSplit t b .board)
 unfolding admitSplit admissionFaults
-good-admitSplit t b h = alone-keeps Good _ b _ h (checked-finishes Good _ _ (λ p. admit-finishes split t 1 [] [] b (of-no _ (p .1 .0)) (Rows-none _ _) h))
+good-admitSplit t b h = step-keeps Good _ b _ _ h (λ p. admit-finishes split t 1 [] [] b (of-no _ (p .1 .0)) (Rows-none _ _) h)
 
 -- a seat for a child of the target
 good-left : (t : Shard) (x : Id) → isWord x ≡ true → goodSeat t (entry x (newSeat (leftOf t))) ≡ true
@@ -70,8 +69,8 @@ record Keepers (share : ℕ) (l : List Id) : Type 0 where
 
 seated-occ : (r : Bool) (c : Shard) (b : Board) (x : ℕ) → occ x (seatedMembers r c b) ≤ occ x (membersOf c b)
 unfolding seatedMembers
-seated-occ true c b x = occ-kept _ x (membersOf c b)
-seated-occ false c b x = occ-kept _ x (membersOf c b)
+seated-occ true c b x = part-occ x (part-keep _ (membersOf c b))
+seated-occ false c b x = part-occ x (part-keep _ (membersOf c b))
 
 keepers-draw : (c : Shard) (share : ℕ) (b : Board) (draws : List ℕ) → Good b → Draws (Keepers share) (keepersOf c share b draws)
 unfolding keepersOf
@@ -91,16 +90,16 @@ drawKeepers-draw t b draws h =
 pub good-admitMerge : (t : Shard) (draws : List ℕ) (b : Board) → Good b → Good (admitMerge t draws b .board)
 unfolding admitMerge admissionFaults
 good-admitMerge t draws b h =
-    alone-keeps Good _ b _ h (checked-finishes Good _ _ (λ p.
-    drawn-finishes Good (Rows mostSeats (goodSeat t)) _ _ (drawKeepers-draw t b draws h) (λ keepers left k. admit-finishes merge t (length keepers) keepers left b (of-no _ (p .1 .0)) k h)))
+    step-keeps Good _ b _ _ h (λ p.
+    drawn-finishes Good (Rows mostSeats (goodSeat t)) _ _ (drawKeepers-draw t b draws h) (λ keepers left k. admit-finishes merge t (length keepers) keepers left b (of-no _ (p .1 .0)) k h))
 
 -- ---- MARKS
 
 pub good-markSeatReady : (t : Shard) (x : Id) (b : Board) → Good b → Good (markSeatReady t x b .board)
 unfolding markSeatReady goodSeat
 good-markSeatReady t x b h =
-    alone-keeps Good _ b _ h (checked-finishes Good _ _ (λ p.
-    good-reshape t (withSeats (update x readySeat)) (λ r e f. Fit-seats (update x readySeat) (Rows-update x readySeat (λ q a g. g) (f .seats)) f) h))
+    step-keeps Good _ b _ _ h (λ p.
+    good-reshape t (withSeats (update x readySeat)) (λ r e f. Fit-seats (update x readySeat) (Rows-update x readySeat (λ q a g. g) (f .seats)) f) h)
 
 -- a split has side 0 only, so its right stays 0
 quiet-side : (r : Reshape) (side : ℕ) → (eqb side 0 or isKind merge r) ≡ true → goodQuiet (r .kind) (r .quietRight) ≡ true → goodQuiet (r .kind) (r .quietRight or eqb side 1) ≡ true
@@ -115,8 +114,8 @@ quiet-side r side u g = go (r .kind) (or-cases _ _ u) g
 pub good-markQuiet : (t : Shard) (side : ℕ) (b : Board) → Good b → Good (markQuiet t side b .board)
 unfolding markQuiet quieted hasSide
 good-markQuiet t side b h =
-    alone-keeps Good _ b _ h (checked-finishes Good _ _ (λ p.
-    good-reshape t (quieted side) (λ r e f. Fit-quiet (λ q. q or eqb side 0) (λ q. q or eqb side 1) (quiet-side r side (sym (holds-at t (λ q. eqb side 0 or isKind merge q) (b .reshapes) r e) ∙ of-no _ (p .1 .1 .1 .0)) (f .quiet)) f) h))
+    step-keeps Good _ b _ _ h (λ p.
+    good-reshape t (quieted side) (λ r e f. Fit-quiet (λ q. q or eqb side 0) (λ q. q or eqb side 1) (quiet-side r side (sym (holds-at t (λ q. eqb side 0 or isKind merge q) (b .reshapes) r e) ∙ of-no _ (p .1 .1 .1 .0)) (f .quiet)) f) h)
 
 -- ---- DRAW COHORT
 
@@ -162,7 +161,7 @@ no-seats (x ∷ l) e = absurd (false≢true e)
 pub good-drawCohort : (t : Shard) (draws : List ℕ) (b : Board) → Good b → Good (drawCohort t draws b .board)
 unfolding drawCohort cohortTurn awaitsCohort poolOf
 good-drawCohort t draws b h =
-    alone-keeps Good _ b _ h (checked-finishes Good _ _ (λ p.
+    step-keeps Good _ b _ _ h (λ p.
     drawn-finishes Good (Mixed (poolOf b)) _ _ (shuffle-draws (poolOf b) draws) (λ ids left m.
     checked-finishes Good _ _ (λ q. good-watchAll t (take (sizeOf b) ids) b (record {
       good = h;
@@ -170,7 +169,7 @@ good-drawCohort t draws b h =
       seats = λ r e.
           let s = sym (holds-at t awaitsCohort (b .reshapes) r e) ∙ of-no _ (p .1 .1 .0) in
           omega (arith, no-seats (r .seats) (and-parts _ _ (and-parts _ _ s .1) .1), few ids);
-    })))))
+    }))))
   where
     few : (ids : List Id) → length (take (sizeOf b) ids) ≤ 32
     few ids = rw length-take (omega (arith, limits _ (h .settings) .size))
@@ -190,6 +189,6 @@ good-drawCohort t draws b h =
 pub good-lapse : (t : Shard) (b : Board) → Good b → Good (lapse t b .board)
 unfolding lapse released
 good-lapse t b h =
-    alone-keeps Good _ b _ h (checked-finishes Good _ _ (λ p.
+    step-keeps Good _ b _ _ h (λ p.
     good-reshape t (withSeats (λ seats. [])) (λ r e f. Fit-seats (λ seats. []) (Rows-none _ _) f)
-    (forAll-keeps Good _ (λ x c. good-takeOff t (pooledFrom (observes t)) (keeps-pooledFrom (observes t)) x) (cohortOf t b) b h)))
+    (forAll-keeps Good _ (λ x c. good-takeOff t (pooledFrom (observes t)) (keeps-pooledFrom (observes t)) x) (cohortOf t b) b h))

@@ -4,28 +4,27 @@ use mathlib.Core.Logic.{_⊎_, inl, inr}
 use mathlib.Core.List.{List, [], _∷_}
 use mathlib.Core.Option.{Option, none, some, Option·some-injective}
 use mathlib.Core.Bool.{Bool, true, false, cond, not, false≢true}
-use Prim.Native.Nat.{ℕ, suc, _+_, _*_, _/_, _≤_, _<_}
+use Prim.Native.Nat.{ℕ, _+_, _≤_, _<_}
 use native.Mathlib.Omega.{arith}
-use lib.Dec.{leb}
 use lib.ListN.{length, take, drop, length-take, length-drop}
 use Rattle.types.specs.Numbers.{Shard, Id, Epoch}
 use Rattle.types.specs.Places.{isSeatedOn}
-use Rattle.rules.specs.Lists.{_and_, _or_, isEmpty, has, keep, sort}
-use Rattle.rules.specs.Table.{Entry, entry, at, update, isSome}
-use Rattle.rules.specs.Board.{Kind, split, merge, Reshape, Board, mostMembers, mostReshapes, mostHalf, onBounds, onReshapes, epochOf}
+use Rattle.rules.specs.Lists.{_and_, _or_, isEmpty, has, keep}
+use Rattle.rules.specs.Table.{Entry, at, update}
+use Rattle.rules.specs.Board.{Kind, split, merge, Reshape, Board, mostMembers, mostReshapes, mostHalf, onReshapes, epochOf}
 use Rattle.rules.specs.WellFormed.{isStamp, mayHaveHalves}
-use Rattle.rules.specs.Moves.{says, membersOf, place, quit, takeOff, forAll, pooledFrom, dropRotations, entrantsOn, abortRotations, withDrainBy, withTerminal, isKind, oldShards, boundsStand, markedBoundary}
-use Rattle.rules.specs.Turns.{Turn, finished, _gives_, checked}
+use Rattle.rules.specs.Moves.{says, membersOf, place, quit, takeOff, entrantsOn, abortRotations, withDrainBy, withTerminal, isKind, oldShards, boundsStand}
+use Rattle.rules.specs.Turns.{finished, _gives_, checked}
 use Rattle.types.specs.declared.Answer.the-variants.{NoBoundary}
 use Rattle.rules.specs.Reshapes.{halfUp}
 use Rattle.rules.specs.Schedule.{unscheduled, isQuiet, scheduled, drainOrSchedule, seatedThere, splitGate, passGate, halve, scheduleSplit, scheduleSplits, mergeGate, scheduleMerge, scheduleMerges}
 use Rattle.rules.proofs.Counts.{occ, occ-take}
-use Rattle.rules.proofs.Tests.{and-parts, and-joins, or-cases, or-left, or-right, of-not, not-of, le-of, lt-of-no, has-occ}
-use Rattle.rules.proofs.KeptLists.{Ids, Ids-none, Ids-part, occ-drop, occ-kept, occ-sort, length-keep, length-sort}
+use Rattle.rules.proofs.Tests.{and-parts, or-cases, or-left, or-right, of-not, not-of, le-of, lt-of-no, has-occ}
+use Rattle.rules.proofs.KeptLists.{by-cases, Ids, Ids-none, Ids-part, occ-drop, part-keep, part-length, part-occ, occ-sort, length-sort}
 use Rattle.rules.proofs.KeptTables.{Rows, Rows-update, at-keysWhere}
-use Rattle.rules.proofs.KeptBoard.{limits, Fit, Fit-drainBy, Fit-terminal, Good, fit-at, stamp}
+use Rattle.rules.proofs.KeptBoard.{limits, Fit-drainBy, Fit-terminal, Good, fit-at, stamp}
 use Rattle.rules.proofs.KeptMoves.{members-good, forAll-keeps, good-abort, good-reshape, good-marked}
-use Rattle.rules.proofs.KeptTurns.{of-no, Mixed, shuffle-draws, Finishes, checked-finishes, drawn-finishes, cond-finishes, batch-keeps}
+use Rattle.rules.proofs.KeptTurns.{Mixed, shuffle-draws, Finishes, checked-finishes, drawn-finishes, reshape-finishes, batch-keeps}
 
 -- ---- a terminal, or a time to drain by
 
@@ -49,7 +48,7 @@ module _ (P : Board → Type 0) (t : Shard) (r : Reshape) (left right : List Id)
         | some e ↦ cond (isQuiet r) (checked (not (boundsStand (r .kind) t b) gives NoBoundary ∷ []) (finished 1 draws (scheduled t r left right b))) (finished 0 draws b)
       ])
       go none = d
-      go (some e) = cond-finishes P (isQuiet r) _ _ (λ q. checked-finishes P _ _ (λ c. s)) (λ q. p)
+      go (some e) = by-cases (Finishes P) (isQuiet r) _ _ (λ q. checked-finishes P _ _ (λ c. s)) (λ q. p)
 
 good-drainBy : (t : Shard) (b : Board) → Good b → Good (onReshapes (update t (withDrainBy (epochOf b + b .settings .drain))) b)
 good-drainBy t b h = good-reshape t (withDrainBy (epochOf b + b .settings .drain)) (λ q e f. Fit-drainBy _ (stamp h _ (limits _ (h .settings) .drain)) f) h
@@ -58,17 +57,11 @@ good-drainBy t b h = good-reshape t (withDrainBy (epochOf b + b .settings .drain
 
 merge-finishes : (t : Shard) (draws : List ℕ) (b : Board) → Good b → Finishes Good (scheduleMerge t draws b)
 unfolding scheduleMerge isEmpty _and_
-merge-finishes t draws b h = go (at t (b .reshapes)) refl
-  where
-    go : (o : Option Reshape) → at t (b .reshapes) ≡ o → Finishes Good (elim o [
-      | none ↦ finished 0 draws b
-      | some r ↦ cond (mergeGate r b) (drainOrSchedule t r [] [] draws b) (finished 0 draws b)
-    ])
-    go none e = h
-    go (some r) e =
-        cond-finishes Good (mergeGate r b) _ _ (λ g.
-        drain-finishes Good t r [] [] draws b h (good-drainBy t b h) (good-scheduled t r [] [] b (fit-at h t r e .admitted) (Ids-none _) (Ids-none _) (λ q u. or-right _ _ refl) h))
-        (λ g. h)
+merge-finishes t draws b h =
+    reshape-finishes Good t _ draws b h (λ r e.
+    by-cases (Finishes Good) (mergeGate r b) _ _ (λ g.
+    drain-finishes Good t r [] [] draws b h (good-drainBy t b h) (good-scheduled t r [] [] b (fit-at h t r e .admitted) (Ids-none _) (Ids-none _) (λ q u. or-right _ _ refl) h))
+    (λ g. h))
 
 pub good-scheduleMerges : (b : Board) → Good b → Good (scheduleMerges b .board)
 unfolding scheduleMerges
@@ -134,8 +127,8 @@ unfolding seatedThere
 halved-ids {b} {ids} t h m =
     let i = members-good h t in
     let f = says (isSeatedOn t) b in
-    let n = length-sort (keep f (membersOf t b)) in
-    Ids-part i (omega (arith, m .size, n, length-keep f (membersOf t b), i .room)) (λ x. omega (arith, m .ids x, occ-sort x (keep f (membersOf t b)), occ-kept f x (membersOf t b)))
+    let p = part-keep f (membersOf t b) in
+    Ids-part i (omega (arith, m .size, length-sort (keep f (membersOf t b)), part-length p, i .room)) (λ x. omega (arith, m .ids x, occ-sort x (keep f (membersOf t b)), part-occ x p))
 
 module _ (shards : List Shard) where
   -- a change of a reshape that keeps its kind
@@ -160,15 +153,11 @@ module _ (shards : List Shard) where
 
   pass-finishes : (t : Shard) (l : List Id) (draws : List ℕ) (b : Board) → 1 ≤ occ t shards → Ids mostMembers l → Splits shards b → Finishes (Splits shards) (passGate t (leftHalf l) (rightHalf l) draws b)
   unfolding passGate
-  pass-finishes t l draws b o i h = go (at t (b .reshapes)) refl
-    where
-      go : (q : Option Reshape) → at t (b .reshapes) ≡ q → Finishes (Splits shards) (elim q [
-        | none ↦ finished 0 draws b
-        | some r ↦ cond (splitGate t (leftHalf l) (rightHalf l) r b) (drainOrSchedule t r (leftHalf l) (rightHalf l) draws b) (finished 0 draws b)
-      ])
-      go none e = h
-      go (some r) e =
-          cond-finishes (Splits shards) (splitGate t (leftHalf l) (rightHalf l) r b) _ _ (λ g. drain-finishes (Splits shards) t r _ _ draws b h (splits-drainBy t b h) (splits-scheduled t r l b o (fit-at (h .good) t r e .admitted) i h)) (λ g. h)
+  pass-finishes t l draws b o i h =
+      reshape-finishes (Splits shards) t _ draws b h (λ r e.
+      by-cases (Finishes (Splits shards)) (splitGate t (leftHalf l) (rightHalf l) r b) _ _ (λ g.
+      drain-finishes (Splits shards) t r _ _ draws b h (splits-drainBy t b h) (splits-scheduled t r l b o (fit-at (h .good) t r e .admitted) i h))
+      (λ g. h))
 
   split-finishes : (t : Shard) → 1 ≤ occ t shards → (draws : List ℕ) (b : Board) → Splits shards b → Finishes (Splits shards) (scheduleSplit t draws b)
   unfolding scheduleSplit halve

@@ -1,18 +1,19 @@
 -- Tables that stay good: within their limit, every entry good, keys strictly rising.
 use mathlib.Core.Path.{_≡_, refl, ap, sym, subst, _∙_}
 use mathlib.Core.Logic.{_≢_}
-use mathlib.Core.List.{List, [], _∷_}
+use mathlib.Core.List.{[], _∷_}
 use mathlib.Core.Option.{Option, none, some, Option·map, Option·none-ne-some, Option·some-injective}
 use mathlib.Core.Bool.{Bool, true, false, cond, false≢true}
-use Prim.Native.Nat.{ℕ, suc, _+_, _*_, _≤_, _<_, zero-le}
+use Prim.Native.Nat.{ℕ, suc, _≤_, _<_, zero-le}
 use native.Mathlib.Omega.{arith}
-use lib.Dec.{eqb, leb, ltb}
+use lib.Dec.{eqb, ltb}
 use lib.ListN.{length}
-use Rattle.rules.specs.Lists.{bitOf, every}
+use Rattle.rules.specs.Lists.{bitOf}
 use Rattle.rules.specs.Table.{Entry, entry, Table, at, holdsAt, put, remove, each, update, keysWhere}
 use Rattle.rules.specs.WellFormed.{goodList, goodTable}
 use Rattle.rules.proofs.Counts.{Alike, same, apart, alike, eqb-same, eqb-apart, occ}
-use Rattle.rules.proofs.Tables.{From, From-weaken, From-each, From-update, From-remove, From-put, at-each, at-put, at-remove, at-below, tally, occ-keysWhere, known-most}
+use Rattle.rules.proofs.Tables.{From, From-each, From-remove, From-put, at-each, at-put, at-remove, at-below, tally, occ-keysWhere}
+use Rattle.rules.proofs.KeptLists.{by-cases, Part, end, kept, gone, part-length}
 use Rattle.rules.proofs.Tests.{all-parts, all-joins, le-of, of-le, every-at, at-every, rising-table, from-rising}
 
 -- ---- lengths
@@ -23,24 +24,18 @@ module _ {A : Type 0} where
   length-each f [] = refl
   length-each f (e ∷ t) = ap suc (length-each f t)
 
-  pub length-remove : (k : ℕ) (t : Table A) → length (remove k t) ≤ length t
+  part-remove : (k : ℕ) (t : Table A) → Part (remove k t) t
   unfolding remove
-  length-remove k [] = omega arith
-  length-remove k (e ∷ t) = go (eqb k (e .key)) (length-remove k t)
-    where
-      go : (c : Bool) → length (remove k t) ≤ length t → length (cond c (remove k t) (e ∷ remove k t)) ≤ suc (length t)
-      go true h = omega arith
-      go false h = omega arith
+  part-remove k [] = end
+  part-remove k (e ∷ t) = by-cases (λ u. Part u (e ∷ t)) (eqb k (e .key)) (remove k t) (e ∷ remove k t) (λ q. gone (part-remove k t)) (λ q. kept (part-remove k t))
 
   pub length-put : (k : ℕ) (v : A) (t : Table A) → length (put k v t) ≤ suc (length t)
   unfolding put
   length-put k v [] = omega arith
-  length-put k v (e ∷ t) = go (ltb k (e .key)) (eqb k (e .key)) (length-put k v t)
-    where
-      go : (c d : Bool) → length (put k v t) ≤ suc (length t) → length (cond c (entry k v ∷ e ∷ t) (cond d (entry k v ∷ t) (e ∷ put k v t))) ≤ suc (suc (length t))
-      go true d h = omega arith
-      go false true h = omega arith
-      go false false h = omega arith
+  length-put k v (e ∷ t) =
+      let h = length-put k v t in
+      by-cases (λ u. length u ≤ suc (suc (length t))) (ltb k (e .key)) (entry k v ∷ e ∷ t) (cond (eqb k (e .key)) (entry k v ∷ t) (e ∷ put k v t)) (λ q. omega arith)
+      (λ q. by-cases (λ u. length u ≤ suc (suc (length t))) (eqb k (e .key)) (entry k v ∷ t) (e ∷ put k v t) (λ r. omega arith) (λ r. omega arith))
 
   -- an entry replaced
   pub length-replace : (k n : ℕ) (v w : A) (t : Table A) → From n t → at k t ≡ some w → length (put k v t) ≡ length t
@@ -57,11 +52,9 @@ module _ {A : Type 0} where
   pub length-keysWhere : (f : A → Bool) (t : Table A) → length (keysWhere f t) ≤ length t
   unfolding keysWhere
   length-keysWhere f [] = omega arith
-  length-keysWhere f (e ∷ t) = go (f (e .val)) (length-keysWhere f t)
-    where
-      go : (c : Bool) → length (keysWhere f t) ≤ length t → length (cond c (e .key ∷ keysWhere f t) (keysWhere f t)) ≤ suc (length t)
-      go true h = omega arith
-      go false h = omega arith
+  length-keysWhere f (e ∷ t) =
+      let h = length-keysWhere f t in
+      by-cases (λ l. length l ≤ suc (length t)) (f (e .val)) (e .key ∷ keysWhere f t) (keysWhere f t) (λ q. omega arith) (λ q. omega arith)
 
 -- ---- what `goodTable` says
 
@@ -95,7 +88,7 @@ module _ {A : Type 0} where
       go j w (apart p q) e = h .each-good j w (rw q at e)
 
   pub Rows-remove : {most : ℕ} {good : Entry A → Bool} {t : Table A} (k : ℕ) → Rows most good t → Rows most good (remove k t)
-  Rows-remove {good} {t} k h = record { room = omega (arith, length-remove k t, h .room); each-good = λ j w e. go j w (eqb j k) (rw (at-remove j k t) at e); rising = From-remove k 0 t (h .rising) }
+  Rows-remove {good} {t} k h = record { room = omega (arith, part-length (part-remove k t), h .room); each-good = λ j w e. go j w (eqb j k) (rw (at-remove j k t) at e); rising = From-remove k 0 t (h .rising) }
     where
       go : (j : ℕ) (w : A) (c : Bool) → cond c none (at j t) ≡ some w → good (entry j w) ≡ true
       go j w true e = absurd (Option·none-ne-some w e)

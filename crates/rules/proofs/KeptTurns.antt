@@ -1,22 +1,24 @@
 -- A property of every board that a turn can finish with is a property of the step's board.
-use mathlib.Core.Path.{_≡_, refl, ap, sym, _∙_}
+use mathlib.Core.Path.{_≡_, refl}
 use mathlib.Core.List.{List, [], _∷_}
 use mathlib.Core.Option.{Option, none, some}
-use mathlib.Core.Bool.{Bool, true, false, cond, not, true≢false}
-use Prim.Native.Nat.{ℕ, suc, _+_, _-_, _≤_, _<_}
+use mathlib.Core.Bool.{Bool, true, false, not, true≢false}
+use Prim.Native.Nat.{ℕ, _+_, _-_, _≤_}
 use native.Mathlib.Omega.{arith}
 use lib.Dec.{leb}
-use lib.ListN.{length, getD}
+use lib.ListN.{length}
 use Rattle.types.specs.Numbers.{Shard, Id}
 use Rattle.types.specs.Places.{drawnTo}
-use Rattle.types.specs.declared.Answer.the-variants.{Done, NotWellFormed, NoRoom}
-use Rattle.rules.specs.Board.{Board, epochOf}
+use Rattle.types.specs.declared.Answer.the-variants.{NotWellFormed, NoRoom}
+use Rattle.rules.specs.Table.{at}
+use Rattle.rules.specs.Board.{Reshape, Board, epochOf}
 use Rattle.rules.specs.WellFormed.{wellFormed}
 use Rattle.rules.specs.Draws.{Drawn, drew, missing, tooLarge, andThen, drawIndex, shuffle, drawFrom}
 use Rattle.rules.specs.Moves.{poolOf, putOn, mayJoin}
 use Rattle.rules.specs.Turns.{Result, Turn, finished, refused, Fault, _gives_, checked, drawn, alone, inTurn, batch, poolDraw}
 use Rattle.rules.proofs.Counts.{occ, occ-getD, hit-same, shuffle-keeps}
 use Rattle.rules.proofs.Tests.{le-of}
+use Rattle.rules.proofs.KeptLists.{by-cases}
 
 -- a check that did not fail
 pub of-no : (c : Bool) → not c ≡ false → c ≡ true
@@ -43,11 +45,7 @@ andThen-draws P Q tooLarge f p h = tt
 index-draws : (i : ℕ) (draws : List ℕ) → Draws (λ j. j ≤ i) (drawIndex i draws)
 unfolding drawIndex
 index-draws i [] = tt
-index-draws i (j ∷ draws) = go (leb j i) refl
-  where
-    go : (c : Bool) → leb j i ≡ c → Draws (λ k. k ≤ i) (cond c (drew j draws) tooLarge)
-    go true e = le-of _ _ e
-    go false e = tt
+index-draws i (j ∷ draws) = by-cases (Draws (λ k. k ≤ i)) (leb j i) (drew j draws) tooLarge (λ e. le-of _ _ e) (λ e. tt)
 
 -- the one drawn is of the pool
 abbrev pub OfPool : List Id → Option Id → Type 0
@@ -82,11 +80,7 @@ module _ (P : Board → Type 0) where
   pub checked-finishes : (fs : List Fault) (t : Turn) → (Passed fs → Finishes t) → Finishes (checked fs t)
   unfolding checked
   checked-finishes [] t h = h tt
-  checked-finishes (f ∷ fs) t h = go (f .fails) refl (checked-finishes fs t)
-    where
-      go : (c : Bool) → f .fails ≡ c → ((Passed fs → Finishes t) → Finishes (checked fs t)) → Finishes (cond c (refused (f .answer)) (checked fs t))
-      go true e k = tt
-      go false e k = k (λ p. h (e, p))
+  checked-finishes (f ∷ fs) t h = by-cases Finishes (f .fails) (refused (f .answer)) (checked fs t) (λ e. tt) (λ e. checked-finishes fs t (λ p. h (e, p)))
 
   pub drawn-finishes : {A : Type 0} (Q : A → Type 0) (d : Drawn A) (turn : A → List ℕ → Turn) → Draws Q d → ((a : A) (left : List ℕ) → Q a → Finishes (turn a left)) → Finishes (drawn d turn)
   unfolding drawn
@@ -94,14 +88,23 @@ module _ (P : Board → Type 0) where
   drawn-finishes Q missing turn q h = tt
   drawn-finishes Q tooLarge turn q h = tt
 
-  pub cond-finishes : (c : Bool) (t u : Turn) → (c ≡ true → Finishes t) → (c ≡ false → Finishes u) → Finishes (cond c t u)
-  cond-finishes true t u p q = p refl
-  cond-finishes false t u p q = q refl
+  -- a turn on a reshape that is looked up: where there is none, nothing is done
+  pub reshape-finishes : (t : Shard) (turn : Reshape → Turn) (draws : List ℕ) (b : Board) → P b → ((r : Reshape) → at t (b .reshapes) ≡ some r → Finishes (turn r))
+      → Finishes (elim (at t (b .reshapes)) [ none ↦ finished 0 draws b | some r ↦ turn r ])
+  reshape-finishes t turn draws b p h = go (at t (b .reshapes)) refl
+    where
+      go : (o : Option Reshape) → at t (b .reshapes) ≡ o → Finishes (elim o [ none ↦ finished 0 draws b | some r ↦ turn r ])
+      go none e = p
+      go (some r) e = h r e
 
-  pub alone-keeps : (draws : List ℕ) (b : Board) (t : Turn) → P b → Finishes t → P (alone draws b t .board)
+  -- a step that is one turn after its checks
+  pub step-keeps : (draws : List ℕ) (b : Board) (fs : List Fault) (t : Turn) → P b → (Passed fs → Finishes t) → P (alone draws b (checked fs t) .board)
   unfolding alone
-  alone-keeps draws b (finished n left c) p h = h
-  alone-keeps draws b (refused a) p h = p
+  step-keeps draws b fs t p h = go (checked fs t) (checked-finishes fs t h)
+    where
+      go : (u : Turn) → Finishes u → P (alone draws b u .board)
+      go (finished n left c) q = q
+      go (refused a) q = p
 
   pub inTurn-keeps : (turn : Shard → List ℕ → Board → Turn) (shards : List Shard)
       → ((s : Shard) → 1 ≤ occ s shards → (draws : List ℕ) (b : Board) → P b → Finishes (turn s draws b))
