@@ -7,7 +7,7 @@ use Rattle.rules.specs.Calls.{Call, tick, admitSplit, admitMerge, markSe
 use Rattle.rules.proofs.KeptBoard.{Good, good-of, of-good}
 use Rattle.rules.proofs.KeptPlaces.{good-tick, good-leave, good-rotate, good-resolve, good-timeOut}
 use Rattle.rules.proofs.KeptReshapes.{good-admitSplit, good-admitMerge, good-markSeatReady, good-markQuiet, good-drawCohort, good-lapse}
-use Rattle.rules.proofs.KeptSchedule.{good-scheduleSplits, good-scheduleMerges}
+use Rattle.rules.proofs.KeptSchedule.{good-scheduleMerges, good-scheduleSplits}
 use Rattle.rules.proofs.KeptCut.{good-cutSplits, good-cutMerges}
 
 pub good-kept : (c : Call) (b : Board) → Good b → Good (answerTo c b .board)

@@ -14,7 +14,8 @@ use Rattle.rules.specs.Board.{Settings, Boundary, Rotation, Seat, Reshap
 use Rattle.rules.specs.WellFormed.{isShard, isTarget, isStamp, goodOption, goodSettings, goodMachine, goodCommittee, goodBoundary, goodSeat, goodQuiet, mayHaveHalves, goodReshape, wellFormed}
 use Rattle.rules.specs.Moves.{withSeats, withQuiet, withDrainBy, withTerminal}
 use Rattle.rules.proofs.Tests.{and-parts, and-joins, all-parts, all-joins, le-of, of-le}
-use Rattle.rules.proofs.KeptLists.{Ids, ids-of, of-ids, Rota, rota-of, of-rota}
+use Rattle.rules.proofs.KeptLists.{Ids, ids-of, of-ids}
+use Rattle.rules.proofs.KeptRotations.{Rota, rota-of, of-rota}
 use Rattle.rules.proofs.KeptTables.{Rows, rows-of, of-rows}
 
 -- ---- numbers in their ranges

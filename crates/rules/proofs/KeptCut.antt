@@ -1,9 +1,9 @@
 -- The steps that carry a reshape out keep a board good.
 use mathlib.Core.Path.{_≡_, refl, sym, _∙_}
 use mathlib.Core.Logic.{_≢_, _⊎_, inl, inr}
-use mathlib.Core.List.{List, [], _∷_, _++_, append-nil}
+use mathlib.Core.List.{List, [], _∷_, _++_}
 use mathlib.Core.Option.{Option, none, some}
-use mathlib.Core.Bool.{Bool, true, false, cond, false≢true, true≢false}
+use mathlib.Core.Bool.{Bool, true, false, cond, true≢false, false≢true}
 use Prim.Native.Nat.{ℕ, _+_, _≤_}
 use native.Mathlib.Omega.{arith}
 use lib.Dec.{eqb, leb}
@@ -16,18 +16,19 @@ use Rattle.types.specs.declared.Epoch.{Epoch as Stamp}
 use Rattle.types.specs.declared.Place.{Place}
 use Rattle.types.specs.declared.Place.the-variants.{Pooled, Seated, Observing, Short, Other}
 use Rattle.rules.specs.Lists.{_or_}
-use Rattle.rules.specs.Table.{entry, Table, at, put, update, keysOf}
-use Rattle.rules.specs.Board.{Boundary, Kind, split, merge, Seat, Reshape, Board, mostCommittees, mostMembers, mostSeats, mostHalf, epochOf}
-use Rattle.rules.specs.WellFormed.{isShard, isTarget, isWord, isStamp, goodOption, goodCommittee, goodBoundary}
+use Rattle.rules.specs.Table.{entry, Table, at, update, keysOf}
+use Rattle.rules.specs.Board.{Boundary, Kind, split, merge, Seat, Reshape, Board, mostMembers, mostSeats, mostHalf, epochOf}
+use Rattle.rules.specs.WellFormed.{goodSeat, isShard, isTarget, isWord, isStamp, goodOption, goodCommittee, goodBoundary}
 use Rattle.rules.specs.Moves.{says, membersOf, place, join, putOn, forAll, newBoundary, heightOf}
 use Rattle.rules.specs.Cut.{recast, fits, cutFaults, settle, cohortFor, settleChild, cutSplitOf, cutSplit, cutSplits, others, rejoin, larger, cutMergeOf, cutMerge, cutMerges}
-use Rattle.rules.proofs.Counts.{Alike, same, apart, alike, eqb-same, eqb-apart, hit, hit-apart, occ, occ-nil, occ-append, occ-single}
+use Rattle.rules.proofs.Counts.{Alike, same, apart, eqb-same, alike, eqb-apart, hit, hit-apart, occ, occ-nil, occ-append, occ-single}
 use Rattle.rules.proofs.Tables.{at-put}
-use Rattle.rules.proofs.Tests.{and-parts, and-joins, or-cases, all-parts, all-joins, eq-of, le-of, lt-of-no}
-use Rattle.rules.proofs.KeptLists.{by-cases, Ids-none, Ids-join, of-ids, Rota-dropRotations}
-use Rattle.rules.proofs.KeptTables.{Rows-within, Rows-put, Rows-remove, length-replace, length-keysWhere, holds-at, at-update, at-other, holds-same}
+use Rattle.rules.proofs.Tests.{and-parts, and-joins, or-cases, all-parts, all-joins, le-of, lt-of-no, eq-of}
+use Rattle.rules.proofs.KeptLists.{by-cases, Ids, of-ids, Ids-none, Ids-join}
+use Rattle.rules.proofs.KeptRotations.{Rota-dropRotations}
+use Rattle.rules.proofs.KeptTables.{length-replace, length-keysWhere, Rows, Rows-within, Rows-put, Rows-remove, holds-at, at-update, at-other, holds-same}
 use Rattle.rules.proofs.KeptBoard.{family, Fit, Good, fit-at, stamp, stamp-now}
-use Rattle.rules.proofs.KeptMoves.{Keeps, keeps-pooled, keeps-movedTo, keeps-keptOn, keeps-seatedFromWatch, good-place, machine-at, members-at, members-putOn, elsewhere-putOn, Joins, joins, good-putOn, Joins-putOn, forAll-keeps, forAll-counts}
+use Rattle.rules.proofs.KeptMoves.{Keeps, keeps-pooled, keeps-movedTo, keeps-keptOn, keeps-seatedFromWatch, good-place, machine-at, members-at, Opens, Joins, joins, good-putOn, Joins-putOn, members-putOn, elsewhere-putOn, forAll-keeps, forAll-all}
 use Rattle.rules.proofs.KeptTurns.{of-no, Finishes, checked-finishes, reshape-finishes, batch-keeps}
 
 -- ---- the tables at a cut
@@ -94,7 +95,7 @@ record Settling (a : Board) (c : Shard) (l : List Id) (b : Board) : Type 0 where
   good : Good b
   shard : isShard c ≡ true
   few : length (membersOf c b) + length l ≤ mostMembers
-  opens : (v : List Id) → length (put c v (b .committees)) ≤ mostCommittees
+  opens : Opens c b
   seated : (x : ℕ) → 1 ≤ occ x (membersOf c b) → says (isSeatedOn c) b x ≡ true
   -- the others are as they were
   others : (d : Shard) → d ≢ c → at d (b .committees) ≡ at d (a .committees)
@@ -186,22 +187,23 @@ settle-keeps a t c seats n x l b s = go (at x (b .machines)) refl
     go none e = pass x l s
     go (some p) e = by-cases (Settling a c l) (isSeatedOn t p) _ _ (λ u. arrive x l p _ e (from-seat c t (movedTo c) p n (keeps-movedTo c (s .shard)) (λ q r w. eqb-same c) u) s) (λ u. look p e (at x seats))
 
-good-settleChild : (t c : Shard) (half : List Id) (seats : Table Seat) (b : Board) → c ≢ t → isShard c ≡ true → length half ≤ mostHalf → length seats ≤ mostSeats → at c (b .committees) ≡ some [] → Good b → Settling b c [] (settleChild t c half seats b)
+-- at most 48 of a half and 32 of a cohort
+good-settleChild : {b : Board} {half : List Id} {seats : Table Seat} (t c : Shard) → Ids mostHalf half → Rows mostSeats (goodSeat t) seats → c ≢ t → isShard c ≡ true → at c (b .committees) ≡ some [] → Good b
+    → Settling b c [] (settleChild t c half seats b)
 unfolding settleChild cohortFor
-good-settleChild t c half seats b n ok m k e h =
+good-settleChild {b} {half} {seats} t c m k n ok e h =
     let ids = half ++ cohortFor c seats in
-    let all : length ids ≤ mostMembers = rw length-append (omega (arith, length-keysWhere (λ q. eqb (q .child) c) seats)) in
-    forAll-counts (Settling b c) (settle t c seats) (settle-keeps b t c seats n) ids [] b (rw append-nil (settling c ids h ok e all))
+    let all : length ids ≤ mostMembers = rw length-append (omega (arith, m .room, k .room, length-keysWhere (λ q. eqb (q .child) c) seats)) in
+    forAll-all (Settling b c) (settle t c seats) (settle-keeps b t c seats n) ids b (settling c ids h ok e all)
 
 cut-split-finishes : (t : Shard) (r : Reshape) (draws : List ℕ) (b : Board) → Fit t r → Good b → Finishes Good (cutSplitOf t r draws b)
 unfolding cutSplitOf cutFaults
 cut-split-finishes t r draws b f h =
     checked-finishes Good _ _ (λ p.
     let s = family t (f .target) in
-    let after = recast split t (heightOf t b) b in
     let g = good-recast split t (heightOf t b) b (f .target) (height-word h t) (of-no _ (p .1 .1 .0)) h in
-    let k = good-settleChild t (leftOf t) (r .left) (r .seats) after (omega (arith, s .least)) (s .left) (f .left .room) (f .seats .room) (fresh-left t (heightOf t b) b) g in
-    good-settleChild t (rightOf t) (r .right) (r .seats) (settleChild t (leftOf t) (r .left) (r .seats) after) (omega (arith, s .least)) (s .right) (f .right .room) (f .seats .room) (k .others (rightOf t) (omega arith) ∙ fresh-right t (heightOf t b) b) (k .good) .good)
+    let k = good-settleChild t (leftOf t) (f .left) (f .seats) (omega (arith, s .least)) (s .left) (fresh-left t (heightOf t b) b) g in
+    good-settleChild t (rightOf t) (f .right) (f .seats) (omega (arith, s .least)) (s .right) (k .others (rightOf t) (omega arith) ∙ fresh-right t (heightOf t b) b) (k .good) .good)
 
 pub good-cutSplits : (b : Board) → Good b → Good (cutSplits b .board)
 unfolding cutSplits cutSplit
@@ -248,7 +250,7 @@ cut-merge-finishes t r draws b f h =
     let mid = forAll (λ x. place x pooled) (others t (r .seats) b) (recast merge t height b) in
     let e = forAll-keeps (Empty t) (λ x. place x pooled) (empty-place t) (others t (r .seats) b) (recast merge t height b) (record { good = g; there = fresh-parent t height b }) in
     let n : length (keysOf (r .seats)) ≤ mostMembers = omega (arith, length-keysWhere (λ q. true) (r .seats), f .seats .room) in
-    forAll-counts (Settling mid t) (rejoin t (r .seats)) (rejoin-keeps mid t (r .seats) (s .least)) (keysOf (r .seats)) [] mid (rw append-nil (settling t (keysOf (r .seats)) (e .good) (s .target) (e .there) n)) .good)
+    forAll-all (Settling mid t) (rejoin t (r .seats)) (rejoin-keeps mid t (r .seats) (s .least)) (keysOf (r .seats)) mid (settling t (keysOf (r .seats)) (e .good) (s .target) (e .there) n) .good)
 
 pub good-cutMerges : (b : Board) → Good b → Good (cutMerges b .board)
 unfolding cutMerges cutMerge

@@ -1,7 +1,7 @@
 -- Moves that keep a board good.
 use mathlib.Core.Path.{_≡_, refl, sym, _∙_}
 use mathlib.Core.Logic.{_≢_, _⊎_, inl, inr}
-use mathlib.Core.List.{List, [], _∷_, _++_}
+use mathlib.Core.List.{List, [], _∷_, _++_, append-nil}
 use mathlib.Core.Option.{Option, none, some}
 use mathlib.Core.Bool.{Bool, true, false, not, false≢true}
 use Prim.Native.Nat.{ℕ, _+_, _≤_, _<_}
@@ -17,12 +17,12 @@ use Rattle.rules.specs.Table.{Table, at, stands, put, remove, update, is
 use Rattle.rules.specs.Board.{Kind, Reshape, Board, mostCommittees, mostMembers, onBounds, onReshapes}
 use Rattle.rules.specs.WellFormed.{isShard, isWord, isStamp, goodOption, goodPlace, goodMachine, goodCommittee, goodBoundary}
 use Rattle.rules.specs.Moves.{membersOf, place, join, quit, putOn, takeOff, forAll, pooledFrom, mayJoin, entrantsOn, dropRotations, abortRotations, withSeats, isKind, giveUpSeat, markedBoundary}
-use Rattle.rules.proofs.Counts.{occ, occ-append, occ-single, hit-same}
+use Rattle.rules.proofs.Counts.{eqb-same, eqb-apart, hit-same, occ, occ-append, occ-single}
 use Rattle.rules.proofs.Tables.{at-put}
 use Rattle.rules.proofs.Tests.{and-parts, and-joins, or-cases, all-parts, all-joins, of-not, le-of, lt-of-no, every-has, has-occ}
-use Rattle.rules.proofs.Counts.{eqb-same, eqb-apart}
-use Rattle.rules.proofs.KeptLists.{by-cases, Ids, Ids-none, ids-of, of-ids, Ids-strike, Ids-join, Rota-dropRotations}
-use Rattle.rules.proofs.KeptTables.{Rows-within, Rows-put, Rows-remove, Rows-update, length-put, length-replace}
+use Rattle.rules.proofs.KeptLists.{by-cases, Ids, ids-of, of-ids, Ids-none, Ids-strike, Ids-join}
+use Rattle.rules.proofs.KeptRotations.{Rota-dropRotations}
+use Rattle.rules.proofs.KeptTables.{length-put, length-replace, Rows-within, Rows-put, Rows-remove, Rows-update}
 use Rattle.rules.proofs.KeptBoard.{Fit, fit-of, of-fit, Fit-seats, Good, on-machines, on-committees, on-bounds, on-rotations, on-reshapes}
 
 -- ---- places: a move that gives a good place for a good one
@@ -105,16 +105,24 @@ members-good {b} h s = go (at s (b .committees)) refl
     go none e = Ids-none mostMembers
     go (some l) e = ids-of _ _ (and-parts _ _ (h .committees .each-good s l e) .1)
 
+-- every id of a list is in its range
+abbrev pub Words : List Id → Type 0
+Words l = (x : ℕ) → 1 ≤ occ x l → isWord x ≡ true
+
+-- there is room to set the committee of a shard
+abbrev pub Opens : Shard → Board → Type 0
+Opens s b = (members : List Id) → length (put s members (b .committees)) ≤ mostCommittees
+
 -- the committee of a shard has room for ids that are distinct and not in it
 pub record Joins (s : Shard) (l : List Id) (b : Board) : Type 0 where
   pub shard : isShard s ≡ true
-  pub words : (x : ℕ) → 1 ≤ occ x l → isWord x ≡ true
+  pub words : Words l
   pub once : (x : ℕ) → occ x l + occ x (membersOf s b) ≤ 1
   pub few : length (membersOf s b) + length l ≤ mostMembers
-  pub opens : (v : List Id) → length (put s v (b .committees)) ≤ mostCommittees
+  pub opens : Opens s b
 
 -- a committee that stands is replaced, and else there is room for one more
-pub opens-of : {b : Board} → Good b → (s : Shard) → (stands s (b .committees) or ltb (length (b .committees)) mostCommittees) ≡ true → (v : List Id) → length (put s v (b .committees)) ≤ mostCommittees
+pub opens-of : {b : Board} → Good b → (s : Shard) → (stands s (b .committees) or ltb (length (b .committees)) mostCommittees) ≡ true → Opens s b
 unfolding stands isSome
 opens-of {b} h s e v = go (at s (b .committees)) refl (or-cases _ _ e)
   where
@@ -124,7 +132,7 @@ opens-of {b} h s e v = go (at s (b .committees)) refl (or-cases _ _ e)
     go (some w) a u = rw (length-replace s 0 v w (b .committees) (h .committees .rising) a) (h .committees .room)
 
 pub joins : {b : Board} {l : List Id} → Good b → (s : Shard) → isShard s ≡ true → Ids mostMembers l → ((x : ℕ) → 1 ≤ occ x l → occ x (membersOf s b) ≡ 0)
-    → length (membersOf s b) + length l ≤ mostMembers → ((v : List Id) → length (put s v (b .committees)) ≤ mostCommittees) → Joins s l b
+    → length (membersOf s b) + length l ≤ mostMembers → Opens s b → Joins s l b
 joins {b} {l} h s ok i absent few opens = record { shard = ok; words = i .words; once = λ x. go x (leb 1 (occ x l)) refl; few = few; opens = opens }
   where
     go : (x : ℕ) (c : Bool) → leb 1 (occ x l) ≡ c → occ x l + occ x (membersOf s b) ≤ 1
@@ -207,6 +215,10 @@ pub good-takeOff : {b : Board} (s : Shard) (move : Place → Place) → Keeps mo
 unfolding takeOff
 good-takeOff s move k x h = good-quit s x (good-place x move k h)
 
+-- pooled from a place
+pub good-release : {b : Board} (s : Shard) (there : Place → Bool) (x : Id) → Good b → Good (takeOff s (pooledFrom there) x b)
+good-release s there = good-takeOff s (pooledFrom there) (keeps-pooledFrom there)
+
 -- ---- one move for each of a list
 
 pub forAll-keeps : {A : Type 0} (P : Board → Type 0) (move : A → Board → Board) → ((x : A) (b : Board) → P b → P (move x b)) → (l : List A) (b : Board) → P b → P (forAll move l b)
@@ -220,12 +232,15 @@ unfolding forAll
 forAll-counts P move k [] m b h = h
 forAll-counts P move k (x ∷ l) m b h = forAll-counts P move k l m (move x b) (k x (l ++ m) b h)
 
+pub forAll-all : {A : Type 0} (P : List A → Board → Type 0) (move : A → Board → Board) → ((x : A) (l : List A) (b : Board) → P (x ∷ l) b → P l (move x b)) → (l : List A) (b : Board) → P l b → P [] (forAll move l b)
+forAll-all P move k l b h = forAll-counts P move k l [] b (rw append-nil h)
+
 -- ---- rotations and reshapes
 
 pub good-abort : {b : Board} (s : Shard) → Good b → Good (abortRotations s b)
 unfolding abortRotations
 good-abort {b} s h =
-    let g = forAll-keeps Good _ (λ x c. good-takeOff s (pooledFrom (isSeatedOn s)) (keeps-pooledFrom (isSeatedOn s)) x) (entrantsOn s (b .rotations)) b h in
+    let g = forAll-keeps Good _ (λ x c. good-release s (isSeatedOn s) x) (entrantsOn s (b .rotations)) b h in
     on-rotations g (dropRotations s) (Rota-dropRotations s (g .rotations))
 
 -- one reshape changed
@@ -240,5 +255,6 @@ good-giveUpSeat k t x h = good-reshape t _ (λ r e f. by-cases (Fit t) (isKind k
 pub good-marked : {b : Board} (s : Shard) (terminal admitted : Epoch) → isStamp terminal ≡ true → isStamp admitted ≡ true → Good b → Good (onBounds (update s (markedBoundary terminal admitted)) b)
 unfolding goodBoundary goodOption
 good-marked s terminal admitted p q h =
-    on-bounds h (update s (markedBoundary terminal admitted)) (Rows-update s (markedBoundary terminal admitted) (λ v e g. let u = all-parts _ g in
+    on-bounds h (update s (markedBoundary terminal admitted)) (Rows-update s (markedBoundary terminal admitted) (λ v e g.
+    let u = all-parts _ g in
     all-joins _ (u .0, (u .1 .0, (u .1 .1 .0, (u .1 .1 .1 .0, (p, (q, tt))))))) (h .bounds))

@@ -2,7 +2,7 @@
 use mathlib.Core.Path.{_≡_, refl, sym, _∙_}
 use mathlib.Core.List.{List, [], _∷_}
 use mathlib.Core.Option.{Option, none, some}
-use mathlib.Core.Bool.{true, false, cond}
+use mathlib.Core.Bool.{true, false, cond, true≢false}
 use Prim.Native.Nat.{ℕ, _+_, _≤_}
 use native.Mathlib.Omega.{arith}
 use lib.Dec.{eqb, leb}
@@ -16,15 +16,16 @@ use Rattle.types.specs.declared.Answer.the-variants.{NoRecord}
 use Rattle.rules.specs.Table.{entry, at, each, holdsAt}
 use Rattle.rules.specs.Board.{Settings, Rotation, split, merge, Board, mostMembers, mostRotations, lastEpoch, onRotations, epochOf}
 use Rattle.rules.specs.WellFormed.{isShard, isWord, goodSettings, goodPlace, goodMachine, goodRotation}
-use Rattle.rules.specs.Moves.{poolOf, place, join, putOn, mayJoin, pooledFrom, hasParty, isParty, openRotation, dropFirst}
+use Rattle.rules.specs.Moves.{poolOf, place, join, putOn, mayJoin, hasParty, isParty, openRotation, dropFirst}
 use Rattle.rules.specs.Turns.{refused}
 use Rattle.rules.specs.Places.{nextEpoch, tick, isScheduledSplit, leaveSeat, leaveFromSeat, leaveFrom, leaveTurn, leave, mayRotate, victimFit, newRotation, rotateTurn, rotate, hasSeatsFree, isRotation, retire, close, resolved, resolve, isDue, timeOut}
 use Rattle.rules.proofs.Counts.{Alike, same, apart, alike, occ, occ-nil}
 use Rattle.rules.proofs.Tests.{and-parts, and-joins, all-parts, all-joins, of-not, of-le, lt-of-no}
-use Rattle.rules.proofs.KeptLists.{by-cases, Ids, Ids-none, Ids-join, Rota-dropFirst, Rota-open}
+use Rattle.rules.proofs.KeptLists.{by-cases, Ids, Ids-none, Ids-join}
+use Rattle.rules.proofs.KeptRotations.{Rota-dropFirst, Rota-open}
 use Rattle.rules.proofs.KeptTables.{Rows-each, at-keysWhere, at-holds}
 use Rattle.rules.proofs.KeptBoard.{limits, Good, on-settings, on-machines, on-rotations, stamp-now}
-use Rattle.rules.proofs.KeptMoves.{keeps-short, keeps-pooledFrom, keeps-madeReady, keeps-drawnTo, good-place, machine-at, joins-of, good-putOn, good-takeOff, forAll-keeps, good-giveUpSeat}
+use Rattle.rules.proofs.KeptMoves.{keeps-short, keeps-madeReady, keeps-drawnTo, good-place, machine-at, joins-of, good-putOn, good-takeOff, good-release, forAll-keeps, good-giveUpSeat}
 use Rattle.rules.proofs.KeptTurns.{of-no, Finishes, checked-finishes, step-keeps, poolDraw-finishes}
 
 -- ---- TICK
@@ -35,7 +36,7 @@ unfolding goodSettings
 next-epoch s n h = all-joins _ (go (alike (s .epoch) lastEpoch), all-parts _ h .1)
   where
     go : Alike (s .epoch) lastEpoch → leb (s .epoch + 1) lastEpoch ≡ true
-    go (same p q) = absurd (let z : true ≡ false = sym q ∙ n in let y : _≡_ {A = ℕ} 0 1 = cc in omega arith)
+    go (same p q) = absurd (true≢false (sym q ∙ n))
     go (apart p q) = of-le (s .epoch + 1) lastEpoch (omega (arith, limits s h .epoch))
 
 pub good-tick : (b : Board) → Good b → Good (tick b .board)
@@ -111,7 +112,7 @@ good-rotate s v draws b h =
 
 good-retire : (s : Shard) (v : Id) (b : Board) → Good b → Good (retire s v b)
 unfolding retire
-good-retire s v b h = by-cases Good (hasSeatsFree s b) b _ (λ e. h) (λ e. good-takeOff s (pooledFrom (isSeatedOn s)) (keeps-pooledFrom (isSeatedOn s)) v h)
+good-retire s v b h = by-cases Good (hasSeatsFree s b) b _ (λ e. h) (λ e. good-release s (isSeatedOn s) v h)
 
 good-close : (r : Rotation) (b : Board) → Good b → Good (close r b)
 unfolding close

@@ -1,7 +1,7 @@
 -- The steps on one reshape keep a board good.
 use mathlib.Core.Path.{_≡_, refl, sym, subst, _∙_}
 use mathlib.Core.Logic.{_⊎_, inl, inr}
-use mathlib.Core.List.{List, [], _∷_, _++_, append-nil}
+use mathlib.Core.List.{List, [], _∷_, _++_}
 use mathlib.Core.Option.{Option, none, some, Option·map, Option·none-ne-some, Option·some-injective}
 use mathlib.Core.Bool.{Bool, true, false, false≢true}
 use Prim.Native.Nat.{ℕ, suc, _+_, _/_, _≤_, _<_}
@@ -15,14 +15,14 @@ use Rattle.rules.specs.Lists.{_and_, _or_, isEmpty, sort}
 use Rattle.rules.specs.Table.{entry, Table, at, put, update}
 use Rattle.rules.specs.Board.{Kind, split, merge, Seat, Reshape, Board, mostMembers, mostReshapes, mostSeats, epochOf, sizeOf}
 use Rattle.rules.specs.WellFormed.{isTarget, isWord, goodOption, goodSeat, goodQuiet}
-use Rattle.rules.specs.Moves.{poolOf, membersOf, place, join, putOn, forAll, pooledFrom, withSeats, isKind, newSeat, watch}
+use Rattle.rules.specs.Moves.{poolOf, membersOf, place, join, putOn, forAll, withSeats, isKind, newSeat, watch}
 use Rattle.rules.specs.Reshapes.{halfUp, newReshape, admit, admissionFaults, admitSplit, seatedMembers, keepersOf, seatAll, drawKeepers, admitMerge, readySeat, markSeatReady, hasSide, quieted, markQuiet, awaitsCohort, watchAll, cohortTurn, drawCohort, cohortOf, released, lapse}
 use Rattle.rules.proofs.Counts.{eqb-same, hit-same, occ, occ-append, occ-take}
-use Rattle.rules.proofs.Tests.{and-parts, and-joins, or-cases, or-left, or-right, of-not, eq-of, lt-of-no}
-use Rattle.rules.proofs.KeptLists.{Ids, Ids-none, part-keep, part-occ, occ-sort}
-use Rattle.rules.proofs.KeptTables.{Rows, Rows-none, Rows-within, Rows-put, Rows-update, length-put, once-keysWhere, holds-at, at-update}
+use Rattle.rules.proofs.Tests.{and-parts, and-joins, or-cases, or-left, or-right, of-not, lt-of-no, eq-of}
+use Rattle.rules.proofs.KeptLists.{Part, part-keep, part-occ, occ-sort, Ids, Ids-none}
+use Rattle.rules.proofs.KeptTables.{length-put, Rows, Rows-none, Rows-within, Rows-put, Rows-update, once-keysWhere, holds-at, at-update}
 use Rattle.rules.proofs.KeptBoard.{limits, family, Fit, of-fit, Fit-seats, Fit-quiet, Good, on-reshapes, stamp-now}
-use Rattle.rules.proofs.KeptMoves.{Keeps, keeps-pooledFrom, keeps-setToWatch, members-good, Joins, joins-of, good-putOn, Joins-putOn, Joins-reshapes, good-takeOff, forAll-keeps, forAll-counts, good-reshape}
+use Rattle.rules.proofs.KeptMoves.{Keeps, keeps-setToWatch, members-good, Words, Joins, joins-of, Joins-reshapes, good-putOn, Joins-putOn, good-release, forAll-keeps, forAll-counts, forAll-all, good-reshape}
 use Rattle.rules.proofs.KeptTurns.{of-no, Draws, andThen-draws, Mixed, shuffle-draws, Finishes, checked-finishes, drawn-finishes, step-keeps}
 use Rattle.rules.proofs.KeptPlaces.{pool-word}
 
@@ -46,16 +46,19 @@ pub good-admitSplit : (t : Shard) (b : Board) → Good b → Good (admitSplit t 
 unfolding admitSplit admissionFaults
 good-admitSplit t b h = step-keeps Good _ b _ _ h (λ p. admit-finishes split t 1 [] [] b (of-no _ (p .1 .0)) (Rows-none _ _) h)
 
--- a seat for a child of the target
-good-left : (t : Shard) (x : Id) → isWord x ≡ true → goodSeat t (entry x (newSeat (leftOf t))) ≡ true
+-- a seat for a child of the target is good
+abbrev IsChild : Shard → Shard → Type 0
+IsChild t c = (x : Id) → isWord x ≡ true → goodSeat t (entry x (newSeat c)) ≡ true
+
+good-left : (t : Shard) → IsChild t (leftOf t)
 unfolding goodSeat
 good-left t x w = and-joins _ _ w (or-left _ _ (eqb-same (leftOf t)))
 
-good-right : (t : Shard) (x : Id) → isWord x ≡ true → goodSeat t (entry x (newSeat (rightOf t))) ≡ true
+good-right : (t : Shard) → IsChild t (rightOf t)
 unfolding goodSeat
 good-right t x w = and-joins _ _ w (or-right _ _ (eqb-same (rightOf t)))
 
-seatAll-rows : (t c : Shard) → ((x : Id) → isWord x ≡ true → goodSeat t (entry x (newSeat c)) ≡ true) → (n : ℕ) (l : List Id) → ((x : Id) → 1 ≤ occ x l → isWord x ≡ true) → (seats : Table Seat) → Rows n (goodSeat t) seats → Rows (n + length l) (goodSeat t) (seatAll c l seats)
+seatAll-rows : (t c : Shard) → IsChild t c → (n : ℕ) (l : List Id) → Words l → (seats : Table Seat) → Rows n (goodSeat t) seats → Rows (n + length l) (goodSeat t) (seatAll c l seats)
 unfolding seatAll occ
 seatAll-rows t c g n [] w seats h = Rows-within (omega (arith, h .room)) h
 seatAll-rows t c g n (x ∷ l) w seats h =
@@ -65,19 +68,26 @@ seatAll-rows t c g n (x ∷ l) w seats h =
 -- keepers: no more than their share, and each a member
 record Keepers (share : ℕ) (l : List Id) : Type 0 where
   few : length l ≤ share
-  words : (x : ℕ) → 1 ≤ occ x l → isWord x ≡ true
+  words : Words l
 
-seated-occ : (r : Bool) (c : Shard) (b : Board) (x : ℕ) → occ x (seatedMembers r c b) ≤ occ x (membersOf c b)
+seated-part : (r : Bool) (c : Shard) (b : Board) → Part (seatedMembers r c b) (membersOf c b)
 unfolding seatedMembers
-seated-occ true c b x = part-occ x (part-keep _ (membersOf c b))
-seated-occ false c b x = part-occ x (part-keep _ (membersOf c b))
+seated-part true c b = part-keep _ (membersOf c b)
+seated-part false c b = part-keep _ (membersOf c b)
+
+-- a shuffle of some members has only members
+mixed-occ : (r : Bool) (c : Shard) (b : Board) {l : List Id} → Mixed (sort (seatedMembers r c b)) l → (x : ℕ) → occ x l ≤ occ x (membersOf c b)
+mixed-occ r c b m x = omega (arith, m .ids x, occ-sort x (seatedMembers r c b), part-occ x (seated-part r c b))
 
 keepers-draw : (c : Shard) (share : ℕ) (b : Board) (draws : List ℕ) → Good b → Draws (Keepers share) (keepersOf c share b draws)
 unfolding keepersOf
 keepers-draw c share b draws h =
     andThen-draws (Mixed (sort (seatedMembers true c b))) _ _ _ (shuffle-draws _ draws) (λ ready left p.
     andThen-draws (Mixed (sort (seatedMembers false c b))) _ _ _ (shuffle-draws _ left) (λ waiting rest q.
-    record { few = rw length-take (omega arith); words = λ x o. members-good h c .words x (omega (arith, o, occ-take x share (ready ++ waiting), occ-append x ready waiting, p .ids x, q .ids x, occ-sort x (seatedMembers true c b), occ-sort x (seatedMembers false c b), seated-occ true c b x, seated-occ false c b x)) }))
+    record {
+      few = rw length-take (omega arith);
+      words = λ x o. members-good h c .words x (omega (arith, o, occ-take x share (ready ++ waiting), occ-append x ready waiting, mixed-occ true c b p x, mixed-occ false c b q x));
+    }))
 
 drawKeepers-draw : (t : Shard) (b : Board) (draws : List ℕ) → Good b → Draws (Rows mostSeats (goodSeat t)) (drawKeepers t b draws)
 unfolding drawKeepers
@@ -125,7 +135,7 @@ record Watching (t : Shard) (l : List Id) (b : Board) : Type 0 where
   joins : Joins t l b
   seats : (r : Reshape) → at t (b .reshapes) ≡ some r → length (r .seats) + length l ≤ mostSeats
 
-watch-keeps : (t c : Shard) → ((x : Id) → isWord x ≡ true → goodSeat t (entry x (newSeat c)) ≡ true) → (x : Id) (l : List Id) (b : Board) → Watching t (x ∷ l) b → Watching t l (watch t c x b)
+watch-keeps : (t c : Shard) → IsChild t c → (x : Id) (l : List Id) (b : Board) → Watching t (x ∷ l) b → Watching t l (watch t c x b)
 unfolding watch putOn join place occ
 watch-keeps t c g x l b w = record {
   good = good-reshape t add (λ r e f. Fit-seats (put x (newSeat c)) (Rows-within (omega (arith, length-put x (newSeat c) (r .seats), w .seats r e)) (Rows-put x (newSeat c) (g x (w .joins .words x (omega (arith, hit-same x)))) (f .seats))) f) on;
@@ -151,7 +161,7 @@ unfolding watchAll
 good-watchAll t ids b w =
     let n = halfUp (sizeOf b) in
     let l : Watching t (drop n ids) (forAll (watch t (leftOf t)) (take n ids) b) = forAll-counts (Watching t) _ (watch-keeps t (leftOf t) (good-left t)) (take n ids) (drop n ids) b (rw take-append-drop w) in
-    forAll-counts (Watching t) _ (watch-keeps t (rightOf t) (good-right t)) (drop n ids) [] (forAll (watch t (leftOf t)) (take n ids) b) (rw append-nil l) .good
+    forAll-all (Watching t) _ (watch-keeps t (rightOf t) (good-right t)) (drop n ids) _ l .good
 
 no-seats : (l : Table Seat) → isEmpty l ≡ true → length l ≡ 0
 unfolding isEmpty
@@ -191,4 +201,4 @@ unfolding lapse released
 good-lapse t b h =
     step-keeps Good _ b _ _ h (λ p.
     good-reshape t (withSeats (λ seats. [])) (λ r e f. Fit-seats (λ seats. []) (Rows-none _ _) f)
-    (forAll-keeps Good _ (λ x c. good-takeOff t (pooledFrom (observes t)) (keeps-pooledFrom (observes t)) x) (cohortOf t b) b h))
+    (forAll-keeps Good _ (λ x c. good-release t (observes t) x) (cohortOf t b) b h))

@@ -20,7 +20,7 @@ use Rattle.rules.specs.Reshapes.{halfUp}
 use Rattle.rules.specs.Schedule.{unscheduled, isQuiet, scheduled, drainOrSchedule, seatedThere, splitGate, passGate, halve, scheduleSplit, scheduleSplits, mergeGate, scheduleMerge, scheduleMerges}
 use Rattle.rules.proofs.Counts.{occ, occ-take}
 use Rattle.rules.proofs.Tests.{and-parts, or-cases, or-left, or-right, of-not, not-of, le-of, lt-of-no, has-occ}
-use Rattle.rules.proofs.KeptLists.{by-cases, Ids, Ids-none, Ids-part, occ-drop, part-keep, part-length, part-occ, occ-sort, length-sort}
+use Rattle.rules.proofs.KeptLists.{by-cases, part-keep, part-length, part-occ, occ-drop, occ-sort, length-sort, Ids, Ids-none, Ids-part}
 use Rattle.rules.proofs.KeptTables.{Rows, Rows-update, at-keysWhere}
 use Rattle.rules.proofs.KeptBoard.{limits, Fit-drainBy, Fit-terminal, Good, fit-at, stamp}
 use Rattle.rules.proofs.KeptMoves.{members-good, forAll-keeps, good-abort, good-reshape, good-marked}

@@ -11,10 +11,10 @@ use lib.ListN.{length}
 use Rattle.rules.specs.Lists.{bitOf}
 use Rattle.rules.specs.Table.{Entry, entry, Table, at, holdsAt, put, remove, each, update, keysWhere}
 use Rattle.rules.specs.WellFormed.{goodList, goodTable}
-use Rattle.rules.proofs.Counts.{Alike, same, apart, alike, eqb-same, eqb-apart, occ}
-use Rattle.rules.proofs.Tables.{From, From-each, From-remove, From-put, at-each, at-put, at-remove, at-below, tally, occ-keysWhere}
+use Rattle.rules.proofs.Counts.{Alike, same, apart, eqb-same, alike, eqb-apart, occ}
+use Rattle.rules.proofs.Tables.{From, at-each, at-put, at-remove, From-each, From-remove, From-put, at-below, tally, occ-keysWhere}
 use Rattle.rules.proofs.KeptLists.{by-cases, Part, end, kept, gone, part-length}
-use Rattle.rules.proofs.Tests.{all-parts, all-joins, le-of, of-le, every-at, at-every, rising-table, from-rising}
+use Rattle.rules.proofs.Tests.{all-parts, all-joins, le-of, of-le, every-at, at-every, from-rising, rising-table}
 
 -- ---- lengths
 

@@ -16,7 +16,7 @@ use Rattle.rules.specs.WellFormed.{wellFormed}
 use Rattle.rules.specs.Draws.{Drawn, drew, missing, tooLarge, andThen, drawIndex, shuffle, drawFrom}
 use Rattle.rules.specs.Moves.{poolOf, putOn, mayJoin}
 use Rattle.rules.specs.Turns.{Result, Turn, finished, refused, Fault, _gives_, checked, drawn, alone, inTurn, batch, poolDraw}
-use Rattle.rules.proofs.Counts.{occ, occ-getD, hit-same, shuffle-keeps}
+use Rattle.rules.proofs.Counts.{hit-same, occ, occ-getD, shuffle-keeps}
 use Rattle.rules.proofs.Tests.{le-of}
 use Rattle.rules.proofs.KeptLists.{by-cases}
 

@@ -4,6 +4,7 @@ pub mod Counts
 pub mod Tables
 pub mod Tests
 pub mod KeptLists
+pub mod KeptRotations
 pub mod KeptTables
 pub mod KeptBoard
 pub mod KeptMoves
