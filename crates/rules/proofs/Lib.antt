@@ -12,3 +12,14 @@ pub mod Snapshot
 pub mod Slips
 pub mod Draws
 pub mod Refusals
+pub mod KeptLists
+pub mod KeptRotations
+pub mod KeptTables
+pub mod KeptBoard
+pub mod KeptMoves
+pub mod KeptTurns
+pub mod KeptPlaces
+pub mod KeptReshapes
+pub mod KeptSchedule
+pub mod KeptCut
+pub mod Kept
