@@ -12,3 +12,4 @@ pub mod Schedule
 pub mod Cut
 pub mod SeatCheck
 pub mod Calls
+pub mod Series
