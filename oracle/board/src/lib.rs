@@ -10,9 +10,9 @@ mod write;
 use std::collections::BTreeMap;
 
 pub use limits::*;
-pub use read::{read, structured};
+pub use read::{read, read_bytes, structured};
 pub use seats::{family, overlap, passes};
-pub use write::{checksum, checksum_words, write};
+pub use write::{checksum, write};
 
 pub type Id = u64;
 pub type Shard = u64;

@@ -25,6 +25,14 @@ pub fn read(words: &[u64]) -> Option<Board> {
     from.rest.is_empty().then_some(board)
 }
 
+/// The board of a snapshot's bytes, which are whole words.
+#[must_use]
+pub fn read_bytes(bytes: &[u8]) -> Option<Board> {
+    let (words, rest) = bytes.as_chunks::<8>();
+    let words: Vec<u64> = words.iter().map(|word| u64::from_le_bytes(*word)).collect();
+    if rest.is_empty() { read(&words) } else { None }
+}
+
 /// Whether the words have a snapshot's structure: six settings, each count
 /// within its limit, no word missing or left. Their numbers may be any.
 #[must_use]

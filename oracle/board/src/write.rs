@@ -78,13 +78,8 @@ fn put_reshape(out: &mut Vec<u64>, target: u64, reshape: &Reshape) {
 /// 14695981039346656037, each word in turn is joined by exclusive or, then
 /// multiplied by 1099511628211, modulo 2^64 (FNV-1a over whole words).
 #[must_use]
-pub fn checksum_words(words: &[u64]) -> u64 {
+pub fn checksum(words: &[u64]) -> u64 {
     words.iter().fold(14_695_981_039_346_656_037, |sum, word| {
         (sum ^ word).wrapping_mul(1_099_511_628_211)
     })
-}
-
-#[must_use]
-pub fn checksum(board: &Board) -> u64 {
-    checksum_words(&write(board))
 }

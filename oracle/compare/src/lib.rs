@@ -1,1 +1,92 @@
-//! x
+//! The original Rust and the plain reading, held against each other.
+
+use board::{Board, read, write};
+use calls::{Call, Made};
+use judge::Turn;
+use plain::{Args, Outcome, Step};
+
+/// What stands behind a recorded outcome.
+#[derive(Clone, Copy, Debug, PartialEq, Eq, PartialOrd, Ord)]
+pub enum Witness {
+    /// The original finished: its own board and counts are the same.
+    Finished,
+    /// The original stopped, and up to the shard where it did it is the same.
+    Stopped,
+    /// The original finished past a limit it doesn't have.
+    PastLimit,
+    /// The plain reading alone: the original has no such step or refusal.
+    PlainAlone,
+}
+
+/// The original's part in a step, where it has one.
+#[must_use]
+pub fn ported(step: Step, args: Args) -> Option<Turn> {
+    match step {
+        Step::AdmitMerge => Some(Turn::DrawKeepers(args.shard)),
+        Step::DrawCohort => Some(Turn::DrawCohort(args.shard)),
+        Step::Lapse => Some(Turn::Lapse(args.shard)),
+        Step::ScheduleSplits => Some(Turn::ScheduleSplits),
+        Step::ScheduleMerges => Some(Turn::ScheduleMerges),
+        Step::CutSplits => Some(Turn::CutSplits),
+        Step::CutMerges => Some(Turn::CutMerges),
+        Step::Leave => Some(Turn::Leave(args.machine)),
+        Step::Rotate => Some(Turn::Rotate(args.shard, args.machine)),
+        Step::Resolve => Some(Turn::Resolve),
+        Step::TimeOut => Some(Turn::TimeOut),
+        Step::Tick | Step::AdmitSplit | Step::MarkReady | Step::MarkQuiet | Step::Read => None,
+    }
+}
+
+/// Refusals that document 01 adds, so that the original is not asked.
+fn added(step: Step, answer: u64) -> bool {
+    match answer {
+        1 | 2 | 3 | 6 | 7 | 8 | 12 | 13 => true,
+        4 => step == Step::Leave,
+        5 => step == Step::AdmitMerge,
+        _ => false,
+    }
+}
+
+/// One recorded call against the original, on the words before it.
+///
+/// # Errors
+///
+/// What differs, in words.
+pub fn against_rust(before: &[u64], made: &Made) -> Result<Witness, String> {
+    let Call { step, args, draws } = &made.call;
+    let Some(turn) = ported(*step, *args) else {
+        return Ok(Witness::PlainAlone);
+    };
+    let Outcome {
+        answer,
+        handled,
+        used,
+    } = made.outcome;
+    if added(*step, answer) {
+        return Ok(Witness::PlainAlone);
+    }
+    let board = read(before).ok_or("the board before is not well-formed")?;
+    let view = judge::view(&board, turn, draws);
+    let said = (view.answer, view.handled, view.used);
+    if said != (answer, handled, used) {
+        let plain = (answer, handled, used);
+        return Err(format!("the original's view {said:?}, recorded {plain:?}"));
+    }
+    if write(&view.board) != made.after {
+        return Err("the boards after differ".to_owned());
+    }
+    Ok(match answer {
+        0 => Witness::Finished,
+        11 => Witness::PastLimit,
+        _ => Witness::Stopped,
+    })
+}
+
+/// One recorded call against the plain reading with a slip in it: whether it
+/// tells the slip apart.
+#[must_use]
+pub fn tells_apart(before: &Board, made: &Made, slip: plain::Slip) -> bool {
+    let Call { step, args, draws } = &made.call;
+    let done = plain::run(before, *step, *args, draws, Some(slip));
+    done.outcome != made.outcome || write(&done.board) != made.after
+}

@@ -9,7 +9,7 @@ mod schedule;
 mod slip;
 mod turn;
 
-use board::{Board, read, write};
+use board::{Board, read, read_bytes, write};
 
 pub use draws::Draws;
 pub use slip::Slip;
@@ -72,6 +72,21 @@ pub struct Args {
     pub side: u64,
 }
 
+impl Args {
+    /// The arguments with 0 where the step names none.
+    #[must_use]
+    pub fn of(self, step: Step) -> Self {
+        let keep = |used: bool, value: u64| if used { value } else { 0 };
+        let reshape = (Step::AdmitSplit..=Step::Lapse).contains(&step);
+        let machine = [Step::MarkReady, Step::Leave, Step::Rotate].contains(&step);
+        Self {
+            shard: keep(reshape || step == Step::Rotate, self.shard),
+            machine: keep(machine, self.machine),
+            side: keep(step == Step::MarkQuiet, self.side),
+        }
+    }
+}
+
 #[derive(Clone, Copy, Debug, PartialEq, Eq)]
 pub struct Outcome {
     pub answer: u64,
@@ -87,17 +102,26 @@ pub struct Done {
     pub asked: Vec<u64>,
 }
 
-/// One call on a snapshot's words: the outcome and the words after it. A read
-/// that is refused leaves no board, so no words.
-#[must_use]
-pub fn call(words: &[u64], step: Step, args: Args, draws: &[u64]) -> (Outcome, Vec<u64>) {
-    let refused = |answer| Outcome {
+fn refused(answer: u64) -> Outcome {
+    Outcome {
         answer,
         handled: 0,
         used: 0,
-    };
+    }
+}
+
+/// The read of a snapshot's bytes.
+#[must_use]
+pub fn read_snapshot(bytes: &[u8]) -> Outcome {
+    refused(if read_bytes(bytes).is_some() { 0 } else { 13 })
+}
+
+/// One call on a snapshot's words: the outcome and the words after it. A
+/// refused read leaves the words as they were.
+#[must_use]
+pub fn call(words: &[u64], step: Step, args: Args, draws: &[u64]) -> (Outcome, Vec<u64>) {
     match (read(words), step) {
-        (None, Step::Read) => (refused(13), Vec::new()),
+        (None, Step::Read) => (refused(13), words.to_vec()),
         (Some(board), Step::Read) => (refused(0), write(&board)),
         (None, _) => (refused(1), words.to_vec()),
         (Some(board), _) => {

@@ -1,0 +1,138 @@
+//! Boards at each limit of document 01.
+
+use std::collections::BTreeMap;
+
+use board::{
+    BOUNDARIES, Board, COMMITTEES, Kind, LAST_EPOCH, LAST_SHARD, MACHINES, MEMBERS, Place,
+    RESHAPES, ROTATIONS, Reshape, Rotation, overlap,
+};
+
+use crate::Rng;
+use crate::disturb::near_shard;
+use crate::passing::boundary;
+
+/// A board filled up to one limit or to a few of them.
+pub fn at_limits(rng: &mut Rng, board: &Board) -> Board {
+    let mut board = board.clone();
+    for _ in 0..rng.between(1, 3) {
+        match rng.below(8) {
+            0 => fill_committees(rng, &mut board),
+            1 => fill_members(rng, &mut board),
+            2 => fill_boundaries(rng, &mut board),
+            3 => fill_rotations(rng, &mut board),
+            4 => fill_reshapes(rng, &mut board),
+            5 => fill_machines(rng, &mut board),
+            6 => last_epoch(&mut board),
+            _ => drop(board.committees.remove(&near_shard(rng, &board))),
+        }
+    }
+    debug_assert!(board.well_formed());
+    board
+}
+
+/// How many rows to leave free: mostly none.
+fn room(rng: &mut Rng) -> usize {
+    if rng.chance(70) {
+        0
+    } else {
+        rng.below(3) as usize
+    }
+}
+
+/// A shard that no reshape names and nothing stands on.
+fn far_shard(rng: &mut Rng, board: &Board) -> u64 {
+    loop {
+        let shard = rng.between(1000, LAST_SHARD);
+        let named = board.reshapes.keys().any(|target| overlap(*target, shard));
+        let stands = board.committees.contains_key(&shard) || board.boundaries.contains_key(&shard);
+        if !named && !stands {
+            return shard;
+        }
+    }
+}
+
+fn fill_committees(rng: &mut Rng, board: &mut Board) {
+    let full = COMMITTEES - room(rng);
+    while board.committees.len() < full {
+        let shard = far_shard(rng, board);
+        board.committees.insert(shard, Vec::new());
+    }
+}
+
+/// New machines seated there while there is room for records, else strangers.
+fn fill_members(rng: &mut Rng, board: &mut Board) {
+    let shards: Vec<u64> = board.committees.keys().copied().collect();
+    let Some(shard) = rng.pick(&shards) else {
+        return;
+    };
+    let full = MEMBERS - room(rng) * rng.below(8) as usize;
+    let recorded = rng.chance(60);
+    while board.committees[&shard].len() < full {
+        let id = rng.between(100_000, 999_999);
+        let known = board.machines.contains_key(&id) || board.committees[&shard].contains(&id);
+        if known {
+            continue;
+        }
+        if recorded && board.machines.len() < MACHINES {
+            let place = Place::Seated {
+                shard,
+                ready: rng.chance(80),
+                stamp: board.settings.epoch,
+            };
+            board.machines.insert(id, place);
+        }
+        board.committees.entry(shard).or_default().push(id);
+    }
+}
+
+fn fill_boundaries(rng: &mut Rng, board: &mut Board) {
+    let full = BOUNDARIES - room(rng);
+    while board.boundaries.len() < full {
+        let shard = far_shard(rng, board);
+        let row = boundary(rng, board.settings.epoch);
+        board.boundaries.insert(shard, row);
+    }
+}
+
+fn fill_rotations(rng: &mut Rng, board: &mut Board) {
+    let full = ROTATIONS - room(rng);
+    board.settings.interval = 1;
+    board.settings.most = rng.between(1, 48);
+    while board.rotations.len() < full {
+        let shard = far_shard(rng, board);
+        let row = Rotation {
+            entrant: rng.below(100),
+            opened: board.settings.epoch,
+        };
+        board.rotations.insert((shard, rng.word()), row);
+    }
+}
+
+/// Splits far away, each with the empty committee and boundary it asks for
+/// while there is room for them.
+fn fill_reshapes(rng: &mut Rng, board: &mut Board) {
+    let full = RESHAPES - room(rng);
+    while board.reshapes.len() < full {
+        let target = far_shard(rng, board) / 2;
+        if board.reshapes.keys().any(|other| overlap(*other, target)) {
+            continue;
+        }
+        let split = Reshape::admitted(Kind::Split, board.settings.epoch, BTreeMap::new());
+        board.reshapes.insert(target, split);
+        if board.committees.len() < COMMITTEES && board.boundaries.len() < BOUNDARIES {
+            board.committees.insert(target, Vec::new());
+            let row = boundary(rng, board.settings.epoch);
+            board.boundaries.insert(target, row);
+        }
+    }
+}
+
+fn fill_machines(rng: &mut Rng, board: &mut Board) {
+    while board.machines.len() < MACHINES {
+        board.machines.insert(rng.word(), Place::Pooled);
+    }
+}
+
+fn last_epoch(board: &mut Board) {
+    board.settings.epoch = LAST_EPOCH;
+}
