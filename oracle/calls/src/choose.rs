@@ -6,7 +6,10 @@ use plain::{Args, Step};
 use crate::Rng;
 
 pub fn choose(rng: &mut Rng, board: &Board) -> (Step, Args) {
-    let (step, mut args) = if rng.chance(45) {
+    let (step, mut args) = if !board.rotations.is_empty() && rng.chance(15) {
+        let steps = [Step::Tick, Step::TimeOut, Step::Resolve];
+        (rng.pick(&steps).unwrap_or(Step::Tick), Args::default())
+    } else if rng.chance(45) {
         useful(rng, board)
     } else {
         anything(rng, board)
@@ -51,7 +54,8 @@ fn admission(rng: &mut Rng, board: &Board) -> (Step, Args) {
     match (rng.pick(&parents), rng.pick(&shards)) {
         (Some(parent), _) if rng.chance(55) => (Step::AdmitMerge, at(parent)),
         (_, Some(shard)) if rng.chance(90) => (Step::AdmitSplit, at(shard)),
-        _ => (Step::AdmitSplit, at(some_shard(rng, board))),
+        _ if rng.chance(20) => (Step::AdmitSplit, at(some_shard(rng, board))),
+        _ => anything(rng, board),
     }
 }
 
@@ -187,13 +191,24 @@ fn anything(rng: &mut Rng, board: &Board) -> (Step, Args) {
             machine: some_machine(rng, board),
             ..Args::default()
         },
-        Step::Rotate => Args {
-            machine: some_member(rng, board, shard),
-            ..at(shard)
-        },
+        Step::Rotate => rotation(rng, board),
         _ => Args::default(),
     };
     (step, args)
+}
+
+/// A member as victim, mostly on a shard that has no split.
+fn rotation(rng: &mut Rng, board: &Board) -> Args {
+    let shards = board.committees.keys().copied();
+    let calm: Vec<u64> = shards.filter(|s| board.split_at(*s).is_none()).collect();
+    let shard = match rng.pick(&calm) {
+        Some(shard) if rng.chance(85) => shard,
+        _ => some_shard(rng, board),
+    };
+    Args {
+        machine: some_member(rng, board, shard),
+        ..at(shard)
+    }
 }
 
 fn weighted(rng: &mut Rng) -> Step {

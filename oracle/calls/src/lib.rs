@@ -2,6 +2,7 @@
 //! recorded form. The outcomes here are the plain reading's; the crate
 //! `compare` holds them against the original Rust.
 
+pub mod cases;
 mod choose;
 mod damage;
 mod disturb;

@@ -26,8 +26,28 @@ pub fn at_limits(rng: &mut Rng, board: &Board) -> Board {
             _ => drop(board.committees.remove(&near_shard(rng, &board))),
         }
     }
-    debug_assert!(board.well_formed());
+    if rng.chance(50) {
+        make_due(rng, &mut board);
+    }
     board
+}
+
+/// A reshape whose cut has come, so that the limits are tried by it.
+fn make_due(rng: &mut Rng, board: &mut Board) {
+    let targets: Vec<u64> = board.reshapes.keys().copied().collect();
+    let Some(target) = rng.pick(&targets) else {
+        return;
+    };
+    let members = board.committees.get(&target).cloned().unwrap_or_default();
+    let epoch = board.settings.epoch;
+    let reshape = board.reshapes.entry(target);
+    reshape.and_modify(|reshape| {
+        reshape.scheduled = Some(epoch);
+        if reshape.kind == Kind::Split {
+            let (left, right) = members.split_at(members.len() / 2);
+            reshape.halves = [left.to_vec(), right.to_vec()];
+        }
+    });
 }
 
 /// How many rows to leave free: mostly none.

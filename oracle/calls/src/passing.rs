@@ -45,9 +45,9 @@ fn settings(rng: &mut Rng, bounds: Bounds) -> Settings {
         epoch,
         size: rng.between(smallest, largest),
         drain: rng.below(4),
-        wait: rng.below(6),
-        interval: rng.between(1, 3),
-        most: rng.below(5),
+        wait: rng.below(4),
+        interval: if rng.chance(70) { 1 } else { rng.between(2, 3) },
+        most: if rng.chance(10) { 0 } else { rng.between(1, 6) },
     }
 }
 

@@ -3,7 +3,7 @@
 use std::collections::BTreeMap;
 use std::fmt::{self, Display, Formatter};
 
-use plain::Step;
+use plain::{Outcome, Step};
 
 /// The answers a step can give, by document 01.
 #[must_use]
@@ -49,11 +49,13 @@ pub fn step_name(step: Step) -> &'static str {
 #[derive(Default)]
 pub struct Table {
     counts: BTreeMap<(Step, u64), u64>,
+    handled: BTreeMap<Step, u64>,
 }
 
 impl Table {
-    pub fn count(&mut self, step: Step, answer: u64) {
-        *self.counts.entry((step, answer)).or_default() += 1;
+    pub fn count(&mut self, step: Step, outcome: Outcome) {
+        *self.counts.entry((step, outcome.answer)).or_default() += 1;
+        *self.handled.entry(step).or_default() += outcome.handled;
     }
 
     #[must_use]
@@ -87,7 +89,7 @@ impl Display for Table {
     fn fmt(&self, f: &mut Formatter<'_>) -> fmt::Result {
         write!(f, "{:16}", "answer")?;
         (0..=13).try_for_each(|answer| write!(f, "{answer:>7}"))?;
-        writeln!(f)?;
+        writeln!(f, "{:>9}", "handled")?;
         for step in Step::ALL {
             write!(f, "{:16}", step_name(step))?;
             for answer in 0..=13 {
@@ -96,7 +98,8 @@ impl Display for Table {
                     count => write!(f, "{count:>7}")?,
                 }
             }
-            writeln!(f)?;
+            let handled = self.handled.get(&step).copied().unwrap_or(0);
+            writeln!(f, "{handled:>9}")?;
         }
         Ok(())
     }

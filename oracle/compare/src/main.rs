@@ -51,7 +51,7 @@ impl Run {
     fn take(&mut self, series: &Series) {
         let mut before = &series.start;
         for made in &series.made {
-            self.table.count(made.call.step, made.outcome.answer);
+            self.table.count(made.call.step, made.outcome);
             match against_rust(before, made) {
                 Ok(witness) => *self.witnesses.entry(witness).or_default() += 1,
                 Err(why) => self.differ(&why, before, made),
