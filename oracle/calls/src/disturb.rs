@@ -97,10 +97,10 @@ fn leave_list(rng: &mut Rng, board: &mut Board, shard: u64) {
     }
 }
 
-/// A reshape's boundary, where there is one to lose.
+/// Mostly a reshape's boundary, where there is one to lose.
 fn lose_boundary(rng: &mut Rng, board: &mut Board, shard: u64) {
     let targets: Vec<u64> = board.reshapes.keys().copied().collect();
-    let named = rng.pick(&targets).map(|target| {
+    let named = rng.pick(&targets).filter(|_| rng.chance(70)).map(|target| {
         let merge = board.reshapes[&target].kind == Kind::Merge;
         if merge {
             2 * target + rng.below(2)

@@ -14,6 +14,7 @@ mod series;
 pub mod small;
 mod table;
 
+pub use limits::Reached;
 pub use rng::Rng;
 pub use series::{Call, Kind, Made, Series, Sizes, bytes_of, make_series};
 pub use table::{Table, can_occur, step_name};

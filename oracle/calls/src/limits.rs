@@ -1,10 +1,11 @@
 //! Boards at each limit of document 01.
 
 use std::collections::BTreeMap;
+use std::fmt::{self, Display, Formatter};
 
 use board::{
     BOUNDARIES, Board, COMMITTEES, Kind, LAST_EPOCH, LAST_SHARD, MACHINES, MEMBERS, Place,
-    RESHAPES, ROTATIONS, Reshape, Rotation, overlap,
+    RESHAPES, ROTATIONS, Reshape, Rotation, SEATS, Seat, overlap,
 };
 
 use crate::Rng;
@@ -15,7 +16,7 @@ use crate::passing::boundary;
 pub fn at_limits(rng: &mut Rng, board: &Board) -> Board {
     let mut board = board.clone();
     for _ in 0..rng.between(1, 3) {
-        match rng.below(8) {
+        match rng.below(9) {
             0 => fill_committees(rng, &mut board),
             1 => fill_members(rng, &mut board),
             2 => fill_boundaries(rng, &mut board),
@@ -23,6 +24,7 @@ pub fn at_limits(rng: &mut Rng, board: &Board) -> Board {
             4 => fill_reshapes(rng, &mut board),
             5 => fill_machines(rng, &mut board),
             6 => last_epoch(&mut board),
+            7 => fill_seats(rng, &mut board),
             _ => drop(board.committees.remove(&near_shard(rng, &board))),
         }
     }
@@ -147,6 +149,28 @@ fn fill_reshapes(rng: &mut Rng, board: &mut Board) {
     }
 }
 
+/// Seats of machines at first, then of strangers.
+fn fill_seats(rng: &mut Rng, board: &mut Board) {
+    let targets: Vec<u64> = board.reshapes.keys().copied().collect();
+    let Some(target) = rng.pick(&targets) else {
+        return;
+    };
+    let mut ids: Vec<u64> = board.machines.keys().copied().collect();
+    rng.shuffle(&mut ids);
+    let strangers = (0..SEATS as u64).map(|n| 1_000_000 + n);
+    let mut ids = ids.into_iter().chain(strangers);
+    let full = SEATS - room(rng);
+    while board.reshapes[&target].seats.len() < full {
+        let child = 2 * target + rng.below(2);
+        let ready = rng.chance(60);
+        let id = ids.next().unwrap_or_default();
+        let reshape = board.reshapes.entry(target);
+        reshape.and_modify(|r| {
+            r.seats.entry(id).or_insert(Seat { child, ready });
+        });
+    }
+}
+
 fn fill_machines(rng: &mut Rng, board: &mut Board) {
     while board.machines.len() < MACHINES {
         board.machines.insert(rng.word(), Place::Pooled);
@@ -155,4 +179,54 @@ fn fill_machines(rng: &mut Rng, board: &mut Board) {
 
 fn last_epoch(board: &mut Board) {
     board.settings.epoch = LAST_EPOCH;
+}
+
+/// How many boards stood at each limit.
+#[derive(Default)]
+pub struct Reached([u64; 8]);
+
+impl Reached {
+    const NAMES: [&str; 8] = [
+        "256 machines",
+        "24 committees",
+        "96 members",
+        "48 boundaries",
+        "48 rotations",
+        "8 reshapes",
+        "32 seats",
+        "the last epoch",
+    ];
+
+    pub fn count(&mut self, board: &Board) {
+        let members = board.committees.values().map(Vec::len).max();
+        let seats = board.reshapes.values().map(|r| r.seats.len()).max();
+        let at = [
+            board.machines.len() == MACHINES,
+            board.committees.len() == COMMITTEES,
+            members == Some(MEMBERS),
+            board.boundaries.len() == BOUNDARIES,
+            board.rotations.len() == ROTATIONS,
+            board.reshapes.len() == RESHAPES,
+            seats == Some(SEATS),
+            board.settings.epoch == LAST_EPOCH,
+        ];
+        for (count, at) in self.0.iter_mut().zip(at) {
+            *count += u64::from(at);
+        }
+    }
+
+    #[must_use]
+    pub fn all(&self) -> bool {
+        self.0.iter().all(|count| *count > 0)
+    }
+}
+
+impl Display for Reached {
+    fn fmt(&self, f: &mut Formatter<'_>) -> fmt::Result {
+        let rows = Self::NAMES.iter().zip(self.0);
+        let rows: Vec<String> = rows
+            .map(|(name, count)| format!("{name} {count}"))
+            .collect();
+        write!(f, "calls on boards at a limit: {}", rows.join(", "))
+    }
 }

@@ -8,9 +8,10 @@ use plain::{Outcome, Step};
 
 use crate::{Kind, Made, Rng, Series, Sizes, can_occur, make_series};
 
-/// The longest snapshot taken, in words, the most machines on it, and the
-/// most calls in one list.
+/// The longest snapshot taken, in words, of a call that is done and of one
+/// that is refused; the most machines on it; the most calls in one list.
 const WORDS: usize = 150;
+const REFUSED_WORDS: usize = 110;
 const MACHINES: usize = 14;
 const LIST: usize = 40;
 
@@ -89,7 +90,12 @@ fn quota((_, answer, handled, changed): Class) -> usize {
 
 fn fits(small: &Small) -> bool {
     let machines = read(&small.before).map_or(0, |board| board.machines.len());
-    small.before.len() <= WORDS && machines <= MACHINES
+    let words = if small.made.outcome.answer == 0 {
+        WORDS
+    } else {
+        REFUSED_WORDS
+    };
+    small.before.len() <= words && machines <= MACHINES
 }
 
 /// The pairs that small boards show: every one that can occur, but for the

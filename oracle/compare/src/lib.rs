@@ -1,6 +1,8 @@
 //! The original Rust and the plain reading, held against each other.
 
-use board::{Board, read, write};
+use std::fmt::{self, Display, Formatter};
+
+use board::{read, write};
 use calls::{Call, Made};
 use judge::Turn;
 use plain::{Args, Outcome, Step};
@@ -16,6 +18,17 @@ pub enum Witness {
     PastLimit,
     /// The plain reading alone: the original has no such step or refusal.
     PlainAlone,
+}
+
+impl Display for Witness {
+    fn fmt(&self, f: &mut Formatter<'_>) -> fmt::Result {
+        f.write_str(match self {
+            Self::Finished => "the original finished, with the same board and counts",
+            Self::Stopped => "the original stopped, rolled back to the same board and counts",
+            Self::PastLimit => "the original went past a limit that it doesn't have",
+            Self::PlainAlone => "the plain reading alone",
+        })
+    }
 }
 
 /// The original's part in a step, where it has one.
@@ -80,13 +93,4 @@ pub fn against_rust(before: &[u64], made: &Made) -> Result<Witness, String> {
         11 => Witness::PastLimit,
         _ => Witness::Stopped,
     })
-}
-
-/// One recorded call against the plain reading with a slip in it: whether it
-/// tells the slip apart.
-#[must_use]
-pub fn tells_apart(before: &Board, made: &Made, slip: plain::Slip) -> bool {
-    let Call { step, args, draws } = &made.call;
-    let done = plain::run(before, *step, *args, draws, Some(slip));
-    done.outcome != made.outcome || write(&done.board) != made.after
 }

@@ -1,26 +1,32 @@
-//! Compares the original Rust with the plain reading over calls from a seed,
-//! and prints the table of what was reached: `compare CALLS SEED`.
+//! Compares the original Rust with the plain reading, over calls from a seed
+//! or over the recorded ones, and prints the table of what was reached.
 
 use std::collections::BTreeMap;
 use std::env;
+use std::fs;
 use std::process::ExitCode;
 
-use calls::{Kind, Rng, Series, Sizes, Table, make_series};
+use board::read;
+use calls::recorded::decode;
+use calls::{Kind, Made, Reached, Rng, Series, Sizes, Table, make_series};
 use compare::{Witness, against_rust};
 
 fn main() -> ExitCode {
-    let mut numbers = env::args().skip(1).map(|arg| arg.parse::<u64>());
-    let (Some(Ok(calls)), Some(Ok(seed))) = (numbers.next(), numbers.next()) else {
-        eprintln!("usage: compare CALLS SEED");
-        return ExitCode::from(2);
-    };
+    let args: Vec<String> = env::args().skip(1).collect();
     let mut run = Run::default();
-    let mut rng = Rng::new(seed);
-    while run.table.total() < calls {
-        let (kind, sizes) = next_kind(&mut rng);
-        run.take(&make_series(&mut rng, kind, sizes));
+    match args.iter().map(String::as_str).collect::<Vec<_>>()[..] {
+        ["recorded", path] => run.take_file(path),
+        ["live", calls, seed] => run.take_live(number(calls), number(seed)),
+        _ => {
+            eprintln!("usage: compare live CALLS SEED, or compare recorded FILE");
+            return ExitCode::from(2);
+        }
     }
     run.report()
+}
+
+fn number(arg: &str) -> u64 {
+    arg.parse().expect("a number")
 }
 
 fn next_kind(rng: &mut Rng) -> (Kind, Sizes) {
@@ -43,15 +49,40 @@ fn next_kind(rng: &mut Rng) -> (Kind, Sizes) {
 #[derive(Default)]
 struct Run {
     table: Table,
+    reached: Reached,
     witnesses: BTreeMap<Witness, u64>,
     differences: u64,
 }
 
 impl Run {
+    fn take_live(&mut self, calls: u64, seed: u64) {
+        let mut rng = Rng::new(seed);
+        while self.table.total() < calls {
+            let (kind, sizes) = next_kind(&mut rng);
+            self.take(&make_series(&mut rng, kind, sizes));
+        }
+    }
+
+    fn take_file(&mut self, path: &str) {
+        let bytes = fs::read(path).expect("the recorded calls can be read");
+        for recorded in decode(&bytes).expect("the recorded calls have their form") {
+            match recorded.replay() {
+                Ok(series) => self.take(&series),
+                Err(why) => {
+                    self.differences += 1;
+                    println!("DIFFERENT: {why}");
+                }
+            }
+        }
+    }
+
     fn take(&mut self, series: &Series) {
         let mut before = &series.start;
         for made in &series.made {
             self.table.count(made.call.step, made.outcome);
+            read(before)
+                .iter()
+                .for_each(|board| self.reached.count(board));
             match against_rust(before, made) {
                 Ok(witness) => *self.witnesses.entry(witness).or_default() += 1,
                 Err(why) => self.differ(&why, before, made),
@@ -60,7 +91,7 @@ impl Run {
         }
     }
 
-    fn differ(&mut self, why: &str, before: &[u64], made: &calls::Made) {
+    fn differ(&mut self, why: &str, before: &[u64], made: &Made) {
         self.differences += 1;
         if self.differences <= 5 {
             println!("DIFFERENT: {why}\n  before {before:?}\n  {made:?}");
@@ -69,13 +100,15 @@ impl Run {
 
     fn report(&self) -> ExitCode {
         print!("{}", self.table);
-        println!("{} calls", self.table.total());
+        println!("{}", self.reached);
         for (witness, count) in &self.witnesses {
-            println!("  {witness:?}: {count}");
+            println!("{count:>8} {witness}");
         }
-        println!("{} differences", self.differences);
+        let calls = self.table.total();
+        println!("{calls} calls, {} differences", self.differences);
         let faults = self.table.faults();
         faults.iter().for_each(|fault| println!("{fault}"));
-        ExitCode::from(u8::from(self.differences > 0 || !faults.is_empty()))
+        let good = self.differences == 0 && faults.is_empty() && self.reached.all();
+        ExitCode::from(u8::from(!good))
     }
 }
