@@ -8,10 +8,9 @@ use plain::{Outcome, Step};
 
 use crate::{Kind, Made, Rng, Series, Sizes, can_occur, make_series};
 
-/// The longest snapshot taken, in words, of a call that is done and of one
-/// that is refused; the most machines on it; the most calls in one list.
-const WORDS: usize = 150;
-const REFUSED_WORDS: usize = 110;
+/// The longest snapshots taken, in words: a first half of each class has the
+/// shorter ones. Then the most machines, and the most calls in one list.
+const WORDS: [usize; 2] = [90, 150];
 const MACHINES: usize = 14;
 const LIST: usize = 40;
 
@@ -26,27 +25,38 @@ pub struct Small {
 type Class = (Step, u64, bool, bool);
 
 /// Calls of every class that small boards show, a few of each and no two of
-/// a class from one series.
+/// a class and length from one series.
 #[must_use]
 pub fn small_calls(seed: u64) -> Vec<Small> {
-    let mut rng = Rng::new(seed);
     let mut found: BTreeMap<Class, Vec<Small>> = BTreeMap::new();
-    for turn in 0..6_000 {
-        let kind = match turn % 8 {
-            0..3 => Kind::Passing,
-            3..7 => Kind::Disturbed,
-            _ if turn % 16 == 7 => Kind::Misnumbered,
-            _ => Kind::Broken,
-        };
-        let series = make_series(&mut rng, kind, sizes(turn));
-        if series.bytes % 8 == 0 {
-            offer_series(&mut found, series);
+    for (pass, words) in WORDS.into_iter().enumerate() {
+        let mut rng = Rng::new(seed + pass as u64);
+        for turn in 0..6_000 {
+            let series = make_series(&mut rng, kind(turn), sizes(turn));
+            if series.bytes % 8 == 0 {
+                let share = WORDS.len() - pass;
+                offer_series(&mut found, series, words, share);
+            }
         }
     }
     found.into_values().flatten().collect()
 }
 
-fn offer_series(found: &mut BTreeMap<Class, Vec<Small>>, series: Series) {
+fn kind(turn: u64) -> Kind {
+    match turn % 8 {
+        0..3 => Kind::Passing,
+        3..7 => Kind::Disturbed,
+        _ if turn % 16 == 7 => Kind::Misnumbered,
+        _ => Kind::Broken,
+    }
+}
+
+fn offer_series(
+    found: &mut BTreeMap<Class, Vec<Small>>,
+    series: Series,
+    words: usize,
+    share: usize,
+) {
     let mut taken = BTreeSet::new();
     let mut before = series.start;
     for made in series.made {
@@ -54,7 +64,8 @@ fn offer_series(found: &mut BTreeMap<Class, Vec<Small>>, series: Series) {
         let small = Small { before, made };
         let class = class(&small);
         let kept = found.entry(class).or_default();
-        if kept.len() < quota(class) && fits(&small) && taken.insert(class) {
+        let room = kept.len() < quota(class).div_ceil(share);
+        if room && small.before.len() <= words && few_machines(&small) && taken.insert(class) {
             kept.push(small);
         }
         before = after;
@@ -88,14 +99,8 @@ fn quota((_, answer, handled, changed): Class) -> usize {
     }
 }
 
-fn fits(small: &Small) -> bool {
-    let machines = read(&small.before).map_or(0, |board| board.machines.len());
-    let words = if small.made.outcome.answer == 0 {
-        WORDS
-    } else {
-        REFUSED_WORDS
-    };
-    small.before.len() <= words && machines <= MACHINES
+fn few_machines(small: &Small) -> bool {
+    read(&small.before).is_none_or(|board| board.machines.len() <= MACHINES)
 }
 
 /// The pairs that small boards show: every one that can occur, but for the
