@@ -51,7 +51,8 @@ pub fn ported(step: Step, args: Args) -> Option<Turn> {
 }
 
 /// Refusals that document 01 adds, so that the original is not asked.
-fn added(step: Step, answer: u64) -> bool {
+#[must_use]
+pub fn added(step: Step, answer: u64) -> bool {
     match answer {
         1 | 2 | 3 | 6 | 7 | 8 | 12 | 13 => true,
         4 => step == Step::Leave,
