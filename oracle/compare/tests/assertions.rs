@@ -1,8 +1,8 @@
 //! The original's debug assertions (D5 and D6 of docs/DIFFERENCES.md). Run
 //! once as nodes run, without them, and once with them.
 
-use board::Board;
-use calls::cases::{boundary, merge_board, split_board};
+use board::{Board, Kind, passes};
+use calls::cases::{boundary, merge_board, split_board, target};
 use judge::{Turn, run};
 use plain::{Args, Step};
 
@@ -49,6 +49,44 @@ fn d6_a_terminal_record_on_a_merges_parent() {
     asserts(&board, Turn::ScheduleMerges, &[], words);
     let done = plain::run(&board, Step::ScheduleMerges, Args::default(), &[], None);
     assert_eq!(done.outcome.answer, 0);
+}
+
+fn step(board: &mut Board, step: Step, args: Args, draws: &[u64]) {
+    let done = plain::run(board, step, args, draws, None);
+    assert_eq!(done.outcome.answer, 0, "{step:?}");
+    *board = done.board;
+}
+
+/// Seats ready and all quiet, scheduled in two calls and cut an epoch later.
+fn reshaped(board: &mut Board, schedule: Step, cut: Step, draws: &[u64]) {
+    let none = Args::default();
+    board.reshapes.entry(1).and_modify(|reshape| {
+        reshape.quiet = [true, reshape.kind == Kind::Merge];
+        reshape
+            .seats
+            .values_mut()
+            .for_each(|seat| seat.ready = true);
+    });
+    step(board, schedule, none, draws);
+    step(board, schedule, none, draws);
+    step(board, Step::Tick, none, &[]);
+    step(board, cut, none, &[]);
+    assert!(passes(board) && board.reshapes.is_empty());
+}
+
+/// Split, merged and split again: the board passes the seat check all along.
+#[test]
+fn d6_a_second_split_after_a_merge() {
+    let mut board = split_board(4);
+    step(&mut board, Step::DrawCohort, target(1), &[0; 3]);
+    reshaped(&mut board, Step::ScheduleSplits, Step::CutSplits, &[0; 3]);
+    step(&mut board, Step::AdmitMerge, target(1), &[0; 6]);
+    reshaped(&mut board, Step::ScheduleMerges, Step::CutMerges, &[]);
+    step(&mut board, Step::AdmitSplit, target(1), &[]);
+    step(&mut board, Step::DrawCohort, target(1), &[0; 3]);
+    assert!(passes(&board));
+    let words = "a split was admitted onto a child id whose terminal record stands";
+    asserts(&board, Turn::ScheduleSplits, &[0; 3], words);
 }
 
 /// Without such a record nothing is asserted, in either build.
