@@ -242,7 +242,7 @@ impl Recorded {
     }
 
     fn answer(&self, words: &[u64], call: &Call) -> (Outcome, Vec<u64>) {
-        if call.step == Step::Read && self.bytes % 8 != 0 {
+        if call.step == Step::Read && !self.bytes.is_multiple_of(8) {
             let bytes = bytes_of(&self.start);
             return (
                 plain::read_snapshot(&bytes[..self.bytes as usize]),

@@ -33,7 +33,7 @@ pub fn small_calls(seed: u64) -> Vec<Small> {
         let mut rng = Rng::new(seed + pass as u64);
         for turn in 0..6_000 {
             let series = make_series(&mut rng, kind(turn), sizes(turn));
-            if series.bytes % 8 == 0 {
+            if series.bytes.is_multiple_of(8) {
                 let share = WORDS.len() - pass;
                 offer_series(&mut found, series, words, share);
             }

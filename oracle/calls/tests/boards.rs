@@ -1,7 +1,8 @@
 //! Snapshots and the seat check over boards from a seed.
 
-use board::{SNAPSHOT_WORDS, passes, read, structured, write};
+use board::{Board, Place, SNAPSHOT_WORDS, passes, read, structured, write};
 use calls::{Kind, Rng, Sizes, bytes_of, make_series};
+use plain::Step;
 
 fn sizes(rng: &mut Rng) -> Sizes {
     Sizes {
@@ -27,6 +28,78 @@ fn passing_boards_go_on_passing() {
         }
     }
     assert_eq!(boards, 60 * 101);
+}
+
+/// What demand 3 says of one call: a move into a seat or to watching, from the
+/// pool or from watching, stamps the epoch; nothing else touches a stamp.
+fn stamped(before: Place, after: Place, epoch: u64) -> bool {
+    match (before, after) {
+        (Place::Seated { stamp: old, .. }, Place::Seated { stamp, .. })
+        | (Place::Observing { stamp: old, .. }, Place::Observing { stamp, .. }) => stamp == old,
+        (
+            Place::Pooled | Place::Observing { .. },
+            Place::Seated { stamp, .. } | Place::Observing { stamp, .. },
+        ) => stamp == epoch,
+        (_, Place::Seated { .. } | Place::Observing { .. }) => false,
+        _ => true,
+    }
+}
+
+#[test]
+fn stamps_are_of_the_last_seating() {
+    let mut rng = Rng::new(16);
+    let mut seatings = 0;
+    for _ in 0..60 {
+        let sizes = sizes(&mut rng);
+        let series = make_series(&mut rng, Kind::Passing, sizes);
+        let mut before = read(&series.start).expect("well-formed");
+        for made in &series.made {
+            let after = read(&made.after).expect("well-formed");
+            for (id, place) in &after.machines {
+                let old = before.machines[id];
+                assert!(
+                    stamped(old, *place, after.settings.epoch),
+                    "{:?}",
+                    made.call
+                );
+                seatings += u64::from(old == Place::Pooled && *place != Place::Pooled);
+            }
+            before = after;
+        }
+    }
+    assert!(seatings > 500, "{seatings}");
+}
+
+/// Demand 3's lapse, on boards that pass the check.
+#[test]
+fn a_lapse_pools_the_cohort_and_changes_nothing_more() {
+    let mut rng = Rng::new(17);
+    let mut pooled = 0;
+    for _ in 0..150 {
+        let sizes = sizes(&mut rng);
+        let series = make_series(&mut rng, Kind::Passing, sizes);
+        let mut before = &series.start;
+        for made in &series.made {
+            if made.call.step == Step::Lapse && made.outcome.answer == 0 {
+                let mut expected = read(before).expect("well-formed");
+                lapse(&mut expected, made.call.args.shard);
+                assert_eq!(write(&expected), made.after);
+                pooled += made.outcome.handled;
+            }
+            before = &made.after;
+        }
+    }
+    assert!(pooled > 100, "{pooled}");
+}
+
+fn lapse(board: &mut Board, target: u64) {
+    let split = board.reshapes.get_mut(&target).expect("a split");
+    let cohort = std::mem::take(&mut split.seats);
+    let committee = board.committees.get_mut(&target).expect("a committee");
+    committee.retain(|id| !cohort.contains_key(id));
+    board
+        .machines
+        .extend(cohort.keys().map(|id| (*id, Place::Pooled)));
 }
 
 #[test]
@@ -83,7 +156,7 @@ fn broken_snapshots_are_refused() {
         assert_eq!(series.bytes.div_ceil(8), series.start.len() as u64);
         let bytes = bytes_of(&series.start);
         assert!(board::read_bytes(&bytes[..series.bytes as usize]).is_none());
-        cut += u64::from(series.bytes % 8 != 0);
+        cut += u64::from(!series.bytes.is_multiple_of(8));
     }
     assert!(cut > 0);
 }

@@ -90,7 +90,7 @@ pub fn rotate(turn: &mut Turn, shard: Shard, victim: Id) -> Result {
 
 fn may_rotate(turn: &Turn, shard: Shard) -> bool {
     let settings = turn.board.settings;
-    let on_interval = settings.epoch != 0 && settings.epoch % settings.interval == 0;
+    let on_interval = settings.epoch != 0 && settings.epoch.is_multiple_of(settings.interval);
     on_interval
         && turn.board.committees.contains_key(&shard)
         && turn.board.split_at(shard).is_none()

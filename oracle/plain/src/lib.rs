@@ -11,7 +11,11 @@ mod turn;
 
 use board::{Board, read, read_bytes, write};
 
-pub use draws::Draws;
+use draws::Draws;
+use schedule::{
+    cut_merge, cut_split, due_merges, due_splits, schedule_merge, schedule_split,
+    unscheduled_merges, unscheduled_splits,
+};
 pub use slip::Slip;
 use turn::{batch, single};
 
@@ -152,30 +156,10 @@ pub fn run(board: &Board, step: Step, args: Args, draws: &[u64], slip: Option<Sl
         Step::MarkQuiet => single(board, draws, |t| reshape::mark_quiet(t, shard, side)),
         Step::DrawCohort => single(board, draws, |t| reshape::draw_cohort(t, shard)),
         Step::Lapse => single(board, draws, |t| reshape::lapse(t, shard)),
-        Step::ScheduleSplits => batch(
-            board,
-            draws,
-            schedule::unscheduled_splits(board),
-            schedule::schedule_split,
-        ),
-        Step::ScheduleMerges => batch(
-            board,
-            draws,
-            schedule::unscheduled_merges(board),
-            schedule::schedule_merge,
-        ),
-        Step::CutSplits => batch(
-            board,
-            draws,
-            schedule::due_splits(board),
-            schedule::cut_split,
-        ),
-        Step::CutMerges => batch(
-            board,
-            draws,
-            schedule::due_merges(board),
-            schedule::cut_merge,
-        ),
+        Step::ScheduleSplits => batch(board, draws, unscheduled_splits(board), schedule_split),
+        Step::ScheduleMerges => batch(board, draws, unscheduled_merges(board), schedule_merge),
+        Step::CutSplits => batch(board, draws, due_splits(board), cut_split),
+        Step::CutMerges => batch(board, draws, due_merges(board), cut_merge),
         Step::Leave => single(board, draws, |t| committee::leave(t, machine)),
         Step::Rotate => single(board, draws, |t| committee::rotate(t, shard, machine)),
         Step::Resolve => single(board, draws, committee::resolve),
