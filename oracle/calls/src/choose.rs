@@ -123,7 +123,7 @@ fn some_shard(rng: &mut Rng, board: &Board) -> u64 {
 }
 
 /// Shards whose children both have a committee.
-fn parents(board: &Board) -> Vec<u64> {
+pub fn parents(board: &Board) -> Vec<u64> {
     let shards = board.committees.keys();
     let paired = shards.filter(|s| *s % 2 == 0 && board.committees.contains_key(&(*s + 1)));
     paired.map(|shard| shard / 2).collect()

@@ -7,6 +7,7 @@ mod choose;
 mod damage;
 mod disturb;
 mod limits;
+mod many;
 mod passing;
 pub mod recorded;
 mod rng;

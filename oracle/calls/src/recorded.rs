@@ -17,15 +17,21 @@ const LEAST: u64 = 8;
 pub fn recorded_series(seed: u64) -> Vec<Series> {
     let mut rng = Rng::new(seed);
     let mut all = Vec::new();
-    for (kind, count, calls) in [
-        (Kind::Passing, 110, 150),
-        (Kind::Disturbed, 330, 60),
-        (Kind::Limits, 16, 60),
-        (Kind::Misnumbered, 110, 40),
-        (Kind::Broken, 160, 40),
+    for (kind, count) in [
+        (Kind::Passing, 115),
+        (Kind::Disturbed, 260),
+        (Kind::Many, 130),
+        (Kind::Limits, 16),
+        (Kind::Misnumbered, 110),
+        (Kind::Broken, 160),
     ] {
         for _ in 0..count {
-            let sizes = sizes(&mut rng, calls);
+            let sizes = match kind {
+                Kind::Passing => mixed(&mut rng, 150),
+                Kind::Many => several(&mut rng),
+                Kind::Misnumbered | Kind::Broken => tiny(&mut rng),
+                Kind::Disturbed | Kind::Limits => mixed(&mut rng, 60),
+            };
             all.push(make_series(&mut rng, kind, sizes));
         }
     }
@@ -34,7 +40,7 @@ pub fn recorded_series(seed: u64) -> Vec<Series> {
 }
 
 /// Small boards mostly.
-fn sizes(rng: &mut Rng, calls: u64) -> Sizes {
+fn mixed(rng: &mut Rng, calls: u64) -> Sizes {
     let size = match rng.below(10) {
         0 => (4, 32),
         1 | 2 => (6, 12),
@@ -50,6 +56,26 @@ fn sizes(rng: &mut Rng, calls: u64) -> Sizes {
     }
 }
 
+/// Several shards, with a pool for all of them.
+fn several(rng: &mut Rng) -> Sizes {
+    Sizes {
+        size: (4, 5),
+        shards: rng.between(3, 6),
+        machines: 40,
+        calls: 6,
+    }
+}
+
+/// Snapshots that are not even read need no size.
+fn tiny(rng: &mut Rng) -> Sizes {
+    Sizes {
+        size: (4, 5),
+        shards: rng.between(1, 2),
+        machines: 14,
+        calls: 40,
+    }
+}
+
 /// More series, each up to a pair that was recorded too seldom.
 fn add_rare(rng: &mut Rng, all: &mut Vec<Series>) {
     let mut table = count(all);
@@ -58,7 +84,7 @@ fn add_rare(rng: &mut Rng, all: &mut Vec<Series>) {
             return;
         }
         let kind = [Kind::Limits, Kind::Disturbed][rng.below(2) as usize];
-        let sizes = sizes(rng, 60);
+        let sizes = mixed(rng, 60);
         let mut series = make_series(rng, kind, sizes);
         let seldom = |made: &Made| table.at(made.call.step, made.outcome.answer) < LEAST;
         if let Some(last) = series.made.iter().rposition(seldom) {

@@ -8,6 +8,7 @@ use crate::choose::choose;
 use crate::damage::{broken, misnumbered};
 use crate::disturb::disturbed;
 use crate::limits::at_limits;
+use crate::many::{choose_batch, many_reshapes};
 use crate::passing::{Bounds, passing_board};
 
 #[derive(Clone, Debug, PartialEq, Eq)]
@@ -41,6 +42,8 @@ pub enum Kind {
     Disturbed,
     /// Calls on boards at a limit.
     Limits,
+    /// Batches over several reshapes.
+    Many,
     /// Words of a snapshot's structure that are no well-formed board.
     Misnumbered,
     /// Bytes that are no snapshot.
@@ -66,19 +69,24 @@ pub fn make_series(rng: &mut Rng, kind: Kind, sizes: Sizes) -> Series {
     };
     let board = passing_board(rng, bounds);
     if kind == Kind::Passing {
-        return driven(rng, &board, sizes.calls);
+        return driven(rng, &board, sizes.calls, choose);
+    }
+    if kind == Kind::Many {
+        let board = many_reshapes(rng, &board);
+        let calls = rng.between(2, 6);
+        return driven(rng, &board, calls, choose_batch);
     }
     let board = warmed(rng, board, sizes.calls);
     match kind {
         Kind::Disturbed => {
             let board = disturbed(rng, &board);
             let calls = rng.between(1, 12);
-            driven(rng, &board, calls)
+            driven(rng, &board, calls, choose)
         }
         Kind::Limits => limit_series(rng, board, sizes.calls),
         Kind::Misnumbered => match misnumbered(rng, &write(&board)) {
             Some(words) => refused(rng, words),
-            None => driven(rng, &board, 1),
+            None => driven(rng, &board, 1, choose),
         },
         _ => {
             let (words, bytes) = broken(rng, &write(&board));
@@ -87,10 +95,13 @@ pub fn make_series(rng: &mut Rng, kind: Kind, sizes: Sizes) -> Series {
     }
 }
 
+/// How the next step and its arguments are found.
+type Choose = fn(&mut Rng, &Board) -> (Step, Args);
+
 /// The board some calls later, so that reshapes are in every phase.
 fn warmed(rng: &mut Rng, mut board: Board, calls: u64) -> Board {
     for _ in 0..rng.below(calls + 1) {
-        let (call, _) = next_call(rng, &board);
+        let (call, _) = next_call(rng, &board, choose);
         if call.step != Step::Read {
             board = plain::run(&board, call.step, call.args, &call.draws, None).board;
         }
@@ -104,16 +115,16 @@ fn limit_series(rng: &mut Rng, mut board: Board, calls: u64) -> Series {
     }
     let board = at_limits(rng, &board);
     let calls = rng.between(1, 10.min(calls));
-    driven(rng, &board, calls)
+    driven(rng, &board, calls, choose)
 }
 
-fn driven(rng: &mut Rng, board: &Board, calls: u64) -> Series {
+fn driven(rng: &mut Rng, board: &Board, calls: u64, choose: Choose) -> Series {
     let start = write(board);
     let mut words = start.clone();
     let mut made = Vec::new();
     for _ in 0..calls {
         let Some(board) = read(&words) else { break };
-        let (call, outcome) = next_call(rng, &board);
+        let (call, outcome) = next_call(rng, &board, choose);
         let (said, after) = plain::call(&words, call.step, call.args, &call.draws);
         assert_eq!(outcome.unwrap_or(said), said, "a step is a function");
         words.clone_from(&after);
@@ -128,7 +139,7 @@ fn driven(rng: &mut Rng, board: &Board, calls: u64) -> Series {
 }
 
 /// A call with draws of some fashion; the outcome where it was worked out.
-fn next_call(rng: &mut Rng, board: &Board) -> (Call, Option<Outcome>) {
+fn next_call(rng: &mut Rng, board: &Board, choose: Choose) -> (Call, Option<Outcome>) {
     let (step, args) = choose(rng, board);
     let args = args.of(step);
     if step == Step::Read {

@@ -20,9 +20,9 @@ pub struct Small {
     pub made: Made,
 }
 
-/// What sets calls of one pair apart: whether anything was handled, and
-/// whether the board changed.
-type Class = (Step, u64, bool, bool);
+/// What sets calls of one pair apart: whether nothing, one or, in a batch, more
+/// was handled, and whether the board changed.
+type Class = (Step, u64, u64, bool);
 
 /// Calls of every class that small boards show, a few of each and no two of
 /// a class and length from one series.
@@ -32,7 +32,8 @@ pub fn small_calls(seed: u64) -> Vec<Small> {
     for (pass, words) in WORDS.into_iter().enumerate() {
         let mut rng = Rng::new(seed + pass as u64);
         for turn in 0..6_000 {
-            let series = make_series(&mut rng, kind(turn), sizes(turn));
+            let kind = kind(turn);
+            let series = make_series(&mut rng, kind, sizes(kind, turn));
             if series.bytes.is_multiple_of(8) {
                 let share = WORDS.len() - pass;
                 offer_series(&mut found, series, words, share);
@@ -45,7 +46,8 @@ pub fn small_calls(seed: u64) -> Vec<Small> {
 fn kind(turn: u64) -> Kind {
     match turn % 8 {
         0..3 => Kind::Passing,
-        3..7 => Kind::Disturbed,
+        3..6 => Kind::Disturbed,
+        6 => Kind::Many,
         _ if turn % 16 == 7 => Kind::Misnumbered,
         _ => Kind::Broken,
     }
@@ -72,29 +74,37 @@ fn offer_series(
     }
 }
 
-/// Boards of at most 14 machines, S mostly 4 or 5.
-fn sizes(turn: u64) -> Sizes {
+/// Boards of at most 14 machines, S mostly 4 or 5; for batches, S=4 and two
+/// shards with two watching each.
+fn sizes(kind: Kind, turn: u64) -> Sizes {
+    let (size, shards, machines) = match kind {
+        Kind::Many => ((4, 4), 2, 12),
+        _ if turn % 10 == 9 => ((4, 7), 1 + turn % 2, MACHINES),
+        _ => ((4, 5), 1 + turn % 2, MACHINES),
+    };
     Sizes {
-        size: if turn % 10 == 9 { (4, 7) } else { (4, 5) },
-        shards: 1 + turn % 2,
-        machines: MACHINES,
+        size,
+        shards,
+        machines,
         calls: 45,
     }
 }
 
 fn class(small: &Small) -> Class {
+    let step = small.made.call.step;
     let Outcome {
         answer, handled, ..
     } = small.made.outcome;
     let changed = small.made.after != small.before;
-    (small.made.call.step, answer, handled > 0, changed)
+    let batch = (Step::ScheduleSplits..=Step::CutMerges).contains(&step);
+    let most = if batch { 2 } else { 1 };
+    (step, answer, handled.min(most), changed)
 }
 
 fn quota((_, answer, handled, changed): Class) -> usize {
     match (answer, handled, changed) {
-        (0, true, true) => 11,
-        (0, false, true) => 4,
-        (0, _, false) => 3,
+        (0, 1, true) => 10,
+        (0, 0, false) => 3,
         _ => 4,
     }
 }

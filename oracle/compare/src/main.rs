@@ -10,6 +10,7 @@ use board::read;
 use calls::recorded::decode;
 use calls::{Kind, Made, Reached, Rng, Series, Sizes, Table, make_series};
 use compare::{Witness, against_rust};
+use plain::{Outcome, Step};
 
 fn main() -> ExitCode {
     let args: Vec<String> = env::args().skip(1).collect();
@@ -32,15 +33,17 @@ fn number(arg: &str) -> u64 {
 fn next_kind(rng: &mut Rng) -> (Kind, Sizes) {
     let kind = match rng.below(100) {
         0..35 => Kind::Passing,
-        35..65 => Kind::Disturbed,
+        35..55 => Kind::Disturbed,
+        55..65 => Kind::Many,
         65..85 => Kind::Limits,
         85..95 => Kind::Misnumbered,
         _ => Kind::Broken,
     };
+    let many = kind == Kind::Many;
     let sizes = Sizes {
         size: if rng.chance(60) { (4, 9) } else { (4, 32) },
-        shards: rng.between(1, 5),
-        machines: rng.between(12, 256) as usize,
+        shards: if many { 6 } else { rng.between(1, 5) },
+        machines: rng.between(if many { 60 } else { 12 }, 256) as usize,
         calls: rng.between(20, 160),
     };
     (kind, sizes)
@@ -51,6 +54,9 @@ struct Run {
     table: Table,
     reached: Reached,
     witnesses: BTreeMap<Witness, u64>,
+    /// Batches that handled two shards or more, and ones refused after one.
+    many: u64,
+    partly: u64,
     differences: u64,
 }
 
@@ -80,6 +86,7 @@ impl Run {
         let mut before = &series.start;
         for made in &series.made {
             self.table.count(made.call.step, made.outcome);
+            self.count_batch(made);
             read(before)
                 .iter()
                 .for_each(|board| self.reached.count(board));
@@ -88,6 +95,16 @@ impl Run {
                 Err(why) => self.differ(&why, before, made),
             }
             before = &made.after;
+        }
+    }
+
+    fn count_batch(&mut self, made: &Made) {
+        let Outcome {
+            answer, handled, ..
+        } = made.outcome;
+        if (Step::ScheduleSplits..=Step::CutMerges).contains(&made.call.step) {
+            self.many += u64::from(handled > 1);
+            self.partly += u64::from(answer != 0 && handled > 0);
         }
     }
 
@@ -101,6 +118,10 @@ impl Run {
     fn report(&self) -> ExitCode {
         print!("{}", self.table);
         println!("{}", self.reached);
+        println!(
+            "batches: {} handled two shards or more, {} were refused after one",
+            self.many, self.partly
+        );
         for (witness, count) in &self.witnesses {
             println!("{count:>8} {witness}");
         }
@@ -108,7 +129,8 @@ impl Run {
         println!("{calls} calls, {} differences", self.differences);
         let faults = self.table.faults();
         faults.iter().for_each(|fault| println!("{fault}"));
-        let good = self.differences == 0 && faults.is_empty() && self.reached.all();
+        let reached = self.reached.all() && self.many > 0 && self.partly > 0;
+        let good = self.differences == 0 && faults.is_empty() && reached;
         ExitCode::from(u8::from(!good))
     }
 }
