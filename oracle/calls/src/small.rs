@@ -178,7 +178,11 @@ pub fn print_small(calls: &[Small]) -> String {
             "\n{name} : List Call\n{name} =\n    {rows}\n    ∷ []\n"
         );
     }
+    let opened = names.join(" ");
     let all = names.join(" ∷ ");
-    let _ = write!(out, "\npub all : List (List Call)\nall = {all} ∷ []\n");
+    let _ = write!(
+        out,
+        "\nunfoldable pub all : List (List Call)\nunfolding {opened}\nall = {all} ∷ []\n"
+    );
     out
 }
