@@ -1,14 +1,14 @@
 -- THE HINGE: with rising keys, what the definitions do at a key is what the words do at its row.
 use Prim.Native.Nat.{ℕ, zero, suc, _+_, _≤_, _<_}
 use mathlib.Core.Path.{_≡_, refl, ap, sym, _∙_}
-use mathlib.Core.List.{List, [], _∷_, _++_}
-use mathlib.Core.Option.{Option, none, some, Option·none-ne-some}
+use mathlib.Core.List.{List, [], _∷_}
+use mathlib.Core.Option.{none, some, Option·none-ne-some}
 use mathlib.Core.Bool.{Bool, true, false, cond}
 use native.Mathlib.Omega.{arith}
 use native.Mathlib.Numerals.{add-one}
-use borrow.Author.Tests.{ltb-true, ltb-false, eqb-true, eqb-false, lt-ltb, le-ltb, le-leb, lt-leb, leb-true, leb-false, eq-eqb, ne-eqb}
-use lib.Dec.{eqb, leb, ltb}
-use lib.ListN.{length, getD, set, take, drop, drop-of-length-le}
+use borrow.Author.Tests.{ltb-true, lt-ltb, le-ltb, le-leb, lt-leb, leb-true, leb-false, eq-eqb, ne-eqb}
+use lib.Dec.{eqb, leb}
+use lib.ListN.{length, getD, set, drop}
 use lib.Seq.{drop-cons}
 use Rattle.rules.specs.Table.{Entry, entry, Table, at, put, remove, each, update}
 use Rattle.rules.specs.WellFormed.{rising, rotationBefore}
@@ -16,7 +16,7 @@ use Rattle.rules.specs.Board.{Rotation}
 use Rattle.rules.specs.Moves.{openRotation, dropFirst}
 use Rattle.rules.proofs.Counts.{Alike, same, apart, alike}
 use Rattle.rules.proofs.Tables.{From, at-below}
-use Rattle.rules.proofs.Tests.{and-parts, le-of, rising-table}
+use Rattle.rules.proofs.Tests.{and-parts, rising-table}
 use Rattle.tables.specs.Rows.{insertAt, removeAt, Rising, firstWhere, placeOf, keyOf}
 
 -- ---- the first row that passes a test

@@ -1,17 +1,14 @@
 -- Tables in words: the laws of rows, over any width and any room.
 use Prim.Native.Nat.{ℕ, zero, suc, _+_, _-_, _*_, _≤_, _<_}
 use mathlib.Core.Path.{_≡_, refl, ap, sym, _∙_}
-use mathlib.Core.List.{List, [], _∷_, _++_, append-assoc, append-nil, map}
-use mathlib.Core.Bool.{Bool, true, false, cond, not}
+use mathlib.Core.List.{List, [], _∷_, _++_, append-assoc}
 use native.Mathlib.Omega.{arith}
 use native.Mathlib.Nat.{zero-mul, mul-le-mul-right}
-use lib.Dec.{eqb}
-use lib.ListN.{length, length-map, getD, set, take, drop, replicate, length-append, length-drop, length-replicate, length-set, take-append-drop, replicate-append-replicate, List·getD-map}
-use lib.Seq.{take-append-add, set-split, split-at, length-take-le}
-use Rattle.rules.specs.Lists.{keep}
+use lib.ListN.{length, getD, set, take, drop, replicate, length-append, length-drop, length-replicate, length-set, take-append-drop, replicate-append-replicate}
+use lib.Seq.{set-getD, take-append-add, set-split, split-at, length-take-le}
 use Rattle.rules.specs.Snapshot.{rowsWords}
-use Rattle.tables.specs.Rows.{pad, table, insertAt, removeAt, without, Row, wordsIn, keyIn}
-use Rattle.tables.proofs.Parts.{Spot}
+use Rattle.tables.specs.Rows.{pad, table, insertAt, removeAt, Row}
+use Rattle.tables.proofs.Parts.{Spot, spot-word}
 
 -- ---- padding
 
@@ -157,6 +154,11 @@ module _ {A : Type 0} (f : A → List ℕ) (w : ℕ) (fw : (x : A) → length (f
         ap (λ (x : List ℕ). set x 0 (getD t 0 0 - 1)) q
         ∙ ap (λ (x : ℕ). ((x - 1) ∷ rowsWords f (take j xs)) ++ (R ++ (replicate w 0 ++ Z))) counted
         ∙ remove-to f w fw cap xs j l k
+
+  -- the key of row i, where the code reads it
+  pub row-key : (i : ℕ) (d : A) → i < length xs → length xs ≤ cap → 0 < w → getD t (1 + i * w) 0 ≡ getD (f (getD xs i d)) 0 0
+  row-key i d h k z =
+      spot-word (row-spot f w fw cap xs i h k) (getD xs i d) t (1 + i * w) 0 (e ∙ ap (table f w cap) (sym (set-getD xs i d))) (omega arith) (omega (arith, fw (getD xs i d)))
 
 -- a row is within the rows
 pub scaled : (a b w : ℕ) → a < b → a * w + w ≤ b * w

@@ -1,11 +1,11 @@
 -- Words moved up and down: a turn of each loop, and a gap opened and closed.
-use Prim.Native.Nat.{ℕ, zero, suc, _+_, _-_, _≤_, _<_}
+use Prim.Native.Nat.{ℕ, suc, _+_, _-_, _≤_, _<_}
 use mathlib.Core.Path.{_≡_, refl, ap, sym, _∙_}
 use mathlib.Core.List.{List, [], _∷_, _++_, append-assoc}
 use native.Mathlib.Omega.{arith}
 use native.Mathlib.Numerals.{add-one}
 use lib.ListN.{length, getD, set, take, drop, take-append-drop, length-append, length-drop, replicate, List·getD-append}
-use lib.Seq.{take-suc, drop-cons, append-snoc, set-at, getD-take, getD-drop, getD-append-add, length-take-le, take-add, drop-drop, take-append-add, drop-append-seam, take-append-seam, drop-at}
+use lib.Seq.{take-suc, drop-cons, append-snoc, set-at, getD-take, getD-drop, getD-append-add, length-take-le, drop-drop, take-append-add, drop-append-seam, take-append-seam, drop-at}
 use borrow.Rule.Slice.PartMut.{putMid}
 use Rattle.tables.proofs.Parts.{mid-read, mid-put}
 use Rattle.tables.specs.Moved.{movedUp, movedDown}
@@ -120,3 +120,25 @@ closed t u v P F R Z from to by e p g r m w =
     let pr : length (P ++ R) ≡ to - by = omega (arith, length-append P R) in
     let f : take by (drop (to - by) u) ≡ T = mid-read (P ++ R) T Z u (to - by) by q pr l in
     rw (w, k, f, l) (mid-put (P ++ R) T Z u (replicate by 0) (to - by) by q pr l ∙ append-assoc P R _)
+
+-- F moves down over J: what stands behind it then is as long as J
+pub record Behind (P J F R u : List ℕ) : Type 0 where
+  pub junk : List ℕ
+  pub words : u ≡ P ++ (F ++ (junk ++ R))
+  pub size : length junk ≡ length J
+
+pub shifted : (P J F R t u : List ℕ) (from to by : ℕ) → t ≡ P ++ (J ++ (F ++ R)) → length P + length J ≡ from → from + length F ≡ to → length J ≡ by
+    → u ≡ movedDown t from to by → Behind P J F R u
+shifted P J F R t u from to by e p r g m =
+    let T : List ℕ = take by (drop (length P + length F) t) in
+    let n : length t ≡ length P + (length J + (length F + length R)) = rw e (simp length-append) in
+    let z : drop (length P + length F) t ≡ T ++ R =
+    sym (take-append-drop by (drop (length P + length F) t))
+    ∙ ap (λ (x : List ℕ). T ++ x)
+    (drop-drop by (length P + length F) t ∙ rw (e, ← g)
+    (ap (drop (length P + length F + length J)) (simp append-assoc) ∙ drop-at ((P ++ J) ++ F) R (length P + length F + length J) (simp length-append (omega arith)))) in
+    record {
+      junk = T;
+      words = m ∙ rw (← z) (rw (e, ← r, ← p, ← g) (down-parts P J F R));
+      size = length-take-le by (drop (length P + length F) t) (omega (arith, length-drop (length P + length F) t)) ∙ sym g;
+    }

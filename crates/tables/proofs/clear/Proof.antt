@@ -1,12 +1,10 @@
-use Prim.Native.Nat.{ℕ, suc, _+_, _-_, _≤_, _<_}
-use mathlib.Core.Path.{_≡_, refl, ap, sym, _∙_}
+use Prim.Native.Nat.{ℕ, _-_, _≤_}
+use mathlib.Core.Path.{_≡_, refl, ap, _∙_}
 use mathlib.Core.List.{List, _++_, append-nil}
 use native.Mathlib.Omega.{arith}
-use native.Mathlib.Numerals.{add-one}
 use borrow.Author.Needs.{needs}
 use borrow.Author.Fill.{fill-more}
-use lib.ListN.{length, getD, set, drop, replicate, length-set, drop-of-length-le}
-use Rattle.tables.specs.Moved.{movedUp, movedDown}
+use lib.ListN.{length, set, drop, replicate, length-set, drop-of-length-le}
 use Rattle.tables.proofs.clear.Statement.{statement}
 use Rattle.tables.proofs.clear.Tie as tie
 
