@@ -1,0 +1,3 @@
+pub mod Widths
+pub mod One
+pub mod Permits

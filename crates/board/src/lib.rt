@@ -1,0 +1,1 @@
+// The board in lent words: leaf reads and writes, typed, each for every board that the words hold.

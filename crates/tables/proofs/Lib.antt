@@ -1,0 +1,7 @@
+pub mod Parts
+pub mod Words
+pub mod Tables
+pub mod Keys
+pub mod Drops
+pub mod Ids
+pub mod Typed

@@ -1,0 +1,168 @@
+-- Tables in words: the laws of rows, over any width and any room.
+use Prim.Native.Nat.{ℕ, zero, suc, _+_, _-_, _*_, _≤_, _<_}
+use mathlib.Core.Path.{_≡_, refl, ap, sym, _∙_}
+use mathlib.Core.List.{List, [], _∷_, _++_, append-assoc}
+use native.Mathlib.Omega.{arith}
+use native.Mathlib.Nat.{zero-mul, mul-le-mul-right}
+use lib.ListN.{length, getD, set, take, drop, replicate, length-append, length-drop, length-replicate, length-set, take-append-drop, replicate-append-replicate}
+use lib.Seq.{set-getD, take-append-add, set-split, split-at, length-take-le}
+use Rattle.rules.specs.Snapshot.{rowsWords}
+use Rattle.tables.specs.Rows.{pad, table, insertAt, removeAt, Row}
+use Rattle.tables.proofs.Parts.{Spot, spot-word}
+
+-- ---- padding
+
+pub length-pad : (n : ℕ) (l : List ℕ) → length (pad n l) ≡ n
+unfolding pad
+length-pad n l = length-take-le n (l ++ replicate n 0) (simp (length-append, length-replicate) (omega arith))
+
+take-replicate : (n m : ℕ) → n ≤ m → take n (replicate {A = ℕ} m 0) ≡ replicate n 0
+take-replicate zero m h = refl
+take-replicate (suc n) zero h = absurd (omega arith)
+take-replicate (suc n) (suc m) h = ap (λ (l : List ℕ). 0 ∷ l) (take-replicate n m (omega arith))
+
+-- where l has room, the padding is zeros after it
+pub pad-is : (n : ℕ) (l : List ℕ) → length l ≤ n → pad n l ≡ l ++ replicate (n - length l) 0
+unfolding pad
+pad-is n l h =
+    let e : n ≡ length l + (n - length l) = omega arith in
+    ap (λ (k : ℕ). take k (l ++ replicate n 0)) e ∙ take-append-add l (replicate n 0) (n - length l)
+    ∙ ap (λ (z : List ℕ). l ++ z) (take-replicate (n - length l) n (omega arith))
+
+pub table-length : {A : Type 0} (f : A → List ℕ) (w cap : ℕ) (xs : List A) → length (table f w cap xs) ≡ 1 + cap * w
+table-length f w cap xs = omega (arith, length-pad (cap * w) (rowsWords f xs))
+
+-- ---- rows
+
+module _ {A : Type 0} (f : A → List ℕ) (w : ℕ) (fw : (x : A) → length (f x) ≡ w) where
+  pub rows-append : (xs ys : List A) → rowsWords f (xs ++ ys) ≡ rowsWords f xs ++ rowsWords f ys
+  unfolding rowsWords
+  rows-append [] ys = refl
+  rows-append (x ∷ xs) ys = ap (λ (l : List ℕ). f x ++ l) (rows-append xs ys) ∙ sym (append-assoc (f x) (rowsWords f xs) (rowsWords f ys))
+
+  pub rows-length : (xs : List A) → length (rowsWords f xs) ≡ length xs * w
+  unfolding rowsWords
+  rows-length [] = sym (zero-mul w)
+  rows-length (x ∷ xs) = omega (arith, length-append (f x) (rowsWords f xs), fw x, rows-length xs)
+
+  module _ (cap : ℕ) where
+    -- the room past n rows
+    abbrev pub zeros : ℕ → List ℕ
+    zeros n = replicate ((cap - n) * w) 0
+
+    -- the words of a table of us and then vs
+    pub built : (us vs xs : List A) → xs ≡ us ++ vs → length xs ≤ cap → table f w cap xs ≡ (length xs ∷ rowsWords f us) ++ (rowsWords f vs ++ zeros (length xs))
+    built us vs xs e h =
+        let r : cap ≡ length xs + (cap - length xs) = omega arith in
+        let z : cap * w - length (rowsWords f xs) ≡ (cap - length xs) * w = omega (arith, rows-length xs, ap (λ (n : ℕ). n * w) r) in
+        ap (λ (l : List ℕ). length xs ∷ l)
+        (pad-is (cap * w) (rowsWords f xs) (omega (arith, rows-length xs, mul-le-mul-right w h))
+        ∙ rw (z, ap (rowsWords f) e, rows-append us vs) (append-assoc (rowsWords f us) (rowsWords f vs) (zeros (length xs))))
+
+    pub fore : (xs : List A) (j : ℕ) → j ≤ length xs → length (length xs ∷ rowsWords f (take j xs)) ≡ 1 + j * w
+    fore xs j h = omega (arith, rows-length (take j xs), ap (λ (n : ℕ). n * w) (length-take-le j xs h))
+
+    -- row i of a table stands at 1 + i * w
+    pub row-spot : (xs : List A) (i : ℕ) → i < length xs → length xs ≤ cap → Spot f (λ y. table f w cap (set xs i y)) (1 + i * w)
+    unfolding rowsWords
+    row-spot xs i h k = record {
+      front = length xs ∷ rowsWords f (take i xs);
+      back = rowsWords f (drop (suc i) xs) ++ zeros (length xs);
+      is = λ y. built (take i xs) (y ∷ drop (suc i) xs) (set xs i y) (set-split xs i y h) (rw length-set k) ∙ simp (append-assoc, length-set);
+      size = fore xs i (omega arith);
+    }
+
+    -- a row more: the words before and after it, with room for it past the last, and the table that has it
+    room : (n : ℕ) → n < cap → zeros n ≡ replicate w 0 ++ zeros (suc n)
+    room n h =
+        let e : cap - n ≡ suc (cap - suc n) = omega arith in
+        let q : (cap - n) * w ≡ w + (cap - suc n) * w = omega (arith, ap (λ (k : ℕ). k * w) e) in
+        ap (λ (k : ℕ). replicate k 0) q ∙ sym (replicate-append-replicate w ((cap - suc n) * w) 0)
+
+    module _ (xs : List A) (j : ℕ) where
+      aft : j ≤ length xs → 1 + j * w + length (rowsWords f (drop j xs)) ≡ 1 + length xs * w
+      aft h =
+          let e : j + length (drop j xs) ≡ length xs = omega (arith, length-drop j xs) in
+          omega (arith, rows-length (drop j xs), ap (λ (n : ℕ). n * w) e)
+
+      insert-from : length xs < cap
+          → table f w cap xs ≡ (length xs ∷ rowsWords f (take j xs)) ++ (rowsWords f (drop j xs) ++ (replicate w 0 ++ zeros (suc (length xs))))
+      insert-from h = built (take j xs) (drop j xs) xs (sym (take-append-drop j xs)) (omega arith) ∙ rw (room (length xs) h)
+
+      insert-to : j ≤ length xs → length xs < cap → (y : A) (G : List ℕ) → G ≡ f y
+          → ((length xs + 1) ∷ rowsWords f (take j xs)) ++ (G ++ (rowsWords f (drop j xs) ++ zeros (suc (length xs)))) ≡ table f w cap (insertAt xs j y)
+      unfolding rowsWords
+      insert-to l h y G g =
+          let n : length (insertAt xs j y) ≡ suc (length xs) = simp length-append (omega (arith, length-take-le j xs l, length-drop j xs)) in
+          let n' : length xs + 1 ≡ length (insertAt xs j y) = omega arith in
+          sym (built (take j xs) (y ∷ drop j xs) (insertAt xs j y) refl (omega arith) ∙ rw (g, n', n) (simp append-assoc))
+
+      -- a row less
+      remove-from : (d : A) → j < length xs → length xs ≤ cap
+          → table f w cap xs ≡ (length xs ∷ rowsWords f (take j xs)) ++ (f (getD xs j d) ++ (rowsWords f (drop (suc j) xs) ++ zeros (length xs)))
+      unfolding rowsWords
+      remove-from d h k = built (take j xs) (getD xs j d ∷ drop (suc j) xs) xs (split-at xs j d h) k ∙ simp append-assoc
+
+      remove-aft : j < length xs → 1 + j * w + w + length (rowsWords f (drop (suc j) xs)) ≡ 1 + length xs * w
+      remove-aft h =
+          let e : j + 1 + length (drop (suc j) xs) ≡ length xs = omega (arith, length-drop (suc j) xs) in
+          omega (arith, rows-length (drop (suc j) xs), ap (λ (n : ℕ). n * w) e)
+
+      remove-to : j < length xs → length xs ≤ cap
+          → ((length xs - 1) ∷ rowsWords f (take j xs)) ++ (rowsWords f (drop (suc j) xs) ++ (replicate w 0 ++ zeros (length xs))) ≡ table f w cap (removeAt xs j)
+      remove-to l h =
+          let n : length (removeAt xs j) ≡ length xs - 1 = simp length-append (omega (arith, length-take-le j xs (omega arith), length-drop (suc j) xs)) in
+          let s : suc (length xs - 1) ≡ length xs = omega arith in
+          let z : zeros (length xs - 1) ≡ replicate w 0 ++ zeros (length xs) = room (length xs - 1) (omega arith) ∙ rw s in
+          sym (built (take j xs) (drop (suc j) xs) (removeAt xs j) refl (omega arith) ∙ rw (n, z))
+
+-- ---- what the code's gap and count make of a table
+
+module _ {A : Type 0} (f : A → List ℕ) (w : ℕ) (fw : (x : A) → length (f x) ≡ w) (cap : ℕ) (xs : List A) (t : List ℕ) (e : t ≡ table f w cap xs) where
+  pub counted : getD t 0 0 ≡ length xs
+  counted = ap (λ (l : List ℕ). getD l 0 0) e
+
+  module _ (j : ℕ) (u : List ℕ) where
+    -- what `open_gap` ensures, and the store of the count after it
+    pub open-words : length xs < cap → j ≤ length xs → (z : A) → f z ≡ replicate w 0
+        → ((P R G Z : List ℕ) → t ≡ P ++ (R ++ (G ++ Z)) → length P ≡ 1 + j * w → 1 + j * w + length R ≡ 1 + getD t 0 0 * w → length G ≡ w
+        → u ≡ P ++ (replicate w 0 ++ (R ++ Z)))
+        → set u 0 (getD t 0 0 + 1) ≡ table f w cap (insertAt xs j z)
+    open-words h l z fz g =
+        let P : List ℕ = length xs ∷ rowsWords f (take j xs) in
+        let R : List ℕ = rowsWords f (drop j xs) in
+        let Z : List ℕ = replicate ((cap - suc (length xs)) * w) 0 in
+        let q : u ≡ P ++ (replicate w 0 ++ (R ++ Z)) =
+        g P R (replicate w 0) Z (e ∙ insert-from f w fw cap xs j h) (fore f w fw cap xs j l)
+        (omega (arith, aft f w fw cap xs j l, ap (λ (n : ℕ). n * w) counted)) (length-replicate w 0) in
+        ap (λ (x : List ℕ). set x 0 (getD t 0 0 + 1)) q
+        ∙ ap (λ (x : ℕ). ((x + 1) ∷ rowsWords f (take j xs)) ++ (replicate w 0 ++ (R ++ Z))) counted
+        ∙ insert-to f w fw cap xs j l h z (replicate w 0) (sym fz)
+
+    -- what `close_gap` ensures, and the store of the count after it
+    pub remove-words : (d : A) → j < length xs → length xs ≤ cap
+        → ((P F R Z : List ℕ) → t ≡ P ++ (F ++ (R ++ Z)) → length P ≡ 1 + j * w → length F ≡ w → 1 + j * w + w + length R ≡ 1 + getD t 0 0 * w
+        → u ≡ P ++ (R ++ (replicate w 0 ++ Z)))
+        → set u 0 (getD t 0 0 - 1) ≡ table f w cap (removeAt xs j)
+    remove-words d l k g =
+        let P : List ℕ = length xs ∷ rowsWords f (take j xs) in
+        let R : List ℕ = rowsWords f (drop (suc j) xs) in
+        let Z : List ℕ = replicate ((cap - length xs) * w) 0 in
+        let q : u ≡ P ++ (R ++ (replicate w 0 ++ Z)) =
+        g P (f (getD xs j d)) R Z (e ∙ remove-from f w fw cap xs j d l k) (fore f w fw cap xs j (omega arith)) (fw (getD xs j d))
+        (omega (arith, remove-aft f w fw cap xs j l, ap (λ (n : ℕ). n * w) counted)) in
+        ap (λ (x : List ℕ). set x 0 (getD t 0 0 - 1)) q
+        ∙ ap (λ (x : ℕ). ((x - 1) ∷ rowsWords f (take j xs)) ++ (R ++ (replicate w 0 ++ Z))) counted
+        ∙ remove-to f w fw cap xs j l k
+
+  -- the key of row i, where the code reads it
+  pub row-key : (i : ℕ) (d : A) → i < length xs → length xs ≤ cap → 0 < w → getD t (1 + i * w) 0 ≡ getD (f (getD xs i d)) 0 0
+  row-key i d h k z =
+      spot-word (row-spot f w fw cap xs i h k) (getD xs i d) t (1 + i * w) 0 (e ∙ ap (table f w cap) (sym (set-getD xs i d))) (omega arith) (omega (arith, fw (getD xs i d)))
+
+-- a row is within the rows
+pub scaled : (a b w : ℕ) → a < b → a * w + w ≤ b * w
+scaled a b w h = omega (arith, mul-le-mul-right w h)
+
+pub no-row : (w : ℕ) → Row w
+no-row w = record { words = replicate w 0; wide = length-replicate w 0 }

@@ -1,0 +1,201 @@
+// Tables in lent words: a count, rows of any width, and zeros to the end of the room.
+ghost use mathlib.Core.Path.{_≡_};
+ghost use mathlib.Core.List.{List, [], _∷_, _++_};
+ghost use Prim.Native.Nat.{ℕ, _+_, _*_, _-_, _<_, _≤_};
+ghost use mathlib.Core.Bool.{not};
+ghost use lib.Dec.{eqb};
+ghost use lib.ListN.{length, getD, set, replicate};
+ghost use Rattle.rules.specs.Lists.{bitOf, has};
+ghost use Rattle.tables.specs.Rows.{table, idTable, insertAt, removeAt, Rising, placeOf, without, Row, wordsIn, keyIn};
+ghost use Rattle.tables.specs.Moved.{movedUp, movedDown};
+
+// ---- Words: a part moved, and cleared
+
+// The words from `from` to `to` move up by `by`, the last one first.
+fn shift_up(t: &mut [u64], from: usize, to: usize, by: usize)
+    requires { ⌜ (from ≤ to) × (to + by ≤ length (now t)) ⌝ }
+    ensures { λ _. ⌜ now (t .exit) ≡ movedUp (now (t .entry)) from to by ⌝ }
+{
+    let mut k = to;
+    while from < k {
+        k -= 1;
+        t[k + by] = t[k];
+    }
+}
+
+// The words from `from` to `to` move down by `by`, the first one first.
+fn shift_down(t: &mut [u64], from: usize, to: usize, by: usize)
+    requires { ⌜ (by ≤ from) × (from ≤ to) × (to ≤ length (now t)) ⌝ }
+    ensures { λ _. ⌜ now (t .exit) ≡ movedDown (now (t .entry)) from to by ⌝ }
+{
+    let mut k = from;
+    while k < to {
+        t[k - by] = t[k];
+        k += 1;
+    }
+}
+
+pub fn clear(t: &mut [u64])
+    ensures { λ _. ⌜ now (t .exit) ≡ replicate (length (now (t .entry))) 0 ⌝ }
+{
+    let mut i = 0;
+    while i < t.len() {
+        t[i] = 0;
+        i += 1;
+    }
+}
+
+// A gap of `by` zeros at `from`: the words from there to `to` are after it.
+fn open_gap(t: &mut [u64], from: usize, to: usize, by: usize)
+    requires { ⌜ (from ≤ to) × (to + by ≤ length (now t)) ⌝ }
+    ensures { λ _. ⌜ ((P R G Z : List ℕ) → now (t .entry) ≡ P ++ (R ++ (G ++ Z)) → length P ≡ from → from + length R ≡ to → length G ≡ by →
+        now (t .exit) ≡ P ++ (replicate by 0 ++ (R ++ Z))) ⌝ }
+{
+    shift_up(t, from, to, by);
+    let e = from + by;
+    clear(&mut t[from..e]);
+}
+
+// The `by` words at `from` are taken out: those from there to `to` follow, and then `by` zeros.
+fn close_gap(t: &mut [u64], from: usize, to: usize, by: usize)
+    requires { ⌜ (from + by ≤ to) × (to ≤ length (now t)) ⌝ }
+    ensures { λ _. ⌜ ((P F R Z : List ℕ) → now (t .entry) ≡ P ++ (F ++ (R ++ Z)) → length P ≡ from → length F ≡ by → from + by + length R ≡ to →
+        now (t .exit) ≡ P ++ (R ++ (replicate by 0 ++ Z))) ⌝ }
+{
+    shift_down(t, from + by, to, by);
+    let a = to - by;
+    clear(&mut t[a..to]);
+}
+
+// ---- Rows of w words, with room for cap of them
+
+// A row of zeros more, at j.
+pub fn open_row(t: &mut [u64], w: usize, cap: usize, j: usize)
+    requires { ⌜ (length (now t) ≡ 1 + cap * w) × (cap < 4096) × (w < 4096) ⌝ }
+    ensures { λ _. ⌜ ((rs : List (Row w)) (z : Row w) → now (t .entry) ≡ table wordsIn w cap rs → length rs < cap → j ≤ length rs → z .words ≡ replicate w 0 →
+        now (t .exit) ≡ table wordsIn w cap (insertAt rs j z)) ⌝ }
+{
+    let n = t[0] as usize;
+    if cap <= n {
+        return;
+    }
+    if n < j {
+        return;
+    }
+    let a = 1 + j * w;
+    let e = 1 + n * w;
+    open_gap(t, a, e, w);
+    t[0] = (n + 1) as u64;
+}
+
+// The row at j is taken out, and the last row's room is zeroed.
+pub fn remove_row(t: &mut [u64], w: usize, cap: usize, j: usize)
+    requires { ⌜ (length (now t) ≡ 1 + cap * w) × (cap < 4096) × (w < 4096) ⌝ }
+    ensures { λ _. ⌜ ((rs : List (Row w)) → now (t .entry) ≡ table wordsIn w cap rs → length rs ≤ cap → j < length rs →
+        now (t .exit) ≡ table wordsIn w cap (removeAt rs j)) ⌝ }
+{
+    let n = t[0] as usize;
+    if cap < n {
+        return;
+    }
+    if n <= j {
+        return;
+    }
+    let a = 1 + j * w;
+    let e = 1 + n * w;
+    close_gap(t, a, e, w);
+    t[0] = (n - 1) as u64;
+}
+
+// How many rows the count names, and no more than there is room for.
+fn rows_within(t: &[u64], cap: usize) -> usize
+    requires { ⌜ 0 < length (now t) ⌝ }
+    ensures { λ r. ⌜ (r ≤ cap) × (getD (now (t .entry)) 0 0 ≤ cap → r ≡ getD (now (t .entry)) 0 0) ⌝ }
+{
+    let n = t[0] as usize;
+    if cap < n {
+        return cap;
+    }
+    n
+}
+
+// Where the key k stands, or goes, by halves.
+pub fn place_of(t: &[u64], w: usize, cap: usize, k: u64) -> usize
+    requires { ⌜ (length (now t) ≡ 1 + cap * w) × (cap < 4096) × (0 < w) × (w < 4096) ⌝ }
+    ensures { λ r. ⌜ (r ≤ cap) × ((rs : List (Row w)) → now (t .entry) ≡ table wordsIn w cap rs → length rs ≤ cap → Rising keyIn rs →
+        r ≡ placeOf keyIn k rs) ⌝ }
+{
+    let mut lo: usize = 0;
+    let mut hi = rows_within(t, cap);
+    while lo < hi {
+        let mid = lo + (hi - lo) / 2;
+        if t[1 + mid * w] < k {
+            lo = mid + 1;
+        } else {
+            hi = mid;
+        }
+    }
+    lo
+}
+
+// Row i goes to place k, unless its key is x: the next place.
+fn keep_row(t: &mut [u64], w: usize, k: usize, i: usize, x: u64) -> usize
+    requires { ⌜ (k ≤ i) × (1 + i * w + w ≤ length (now t)) × (0 < w) × (i < 4096) × (w < 4096) ⌝ }
+    ensures { λ r. ⌜ (r ≤ k + 1) × (r ≡ k + bitOf (not (eqb (getD (now (t .entry)) (1 + i * w) 0) x))) × (now (t .exit) ≡ movedDown (now (t .entry)) (1 + i * w) (1 + i * w + w) ((i - k) * w)) ⌝ }
+{
+    let a = 1 + i * w;
+    let e = a + w;
+    let key = t[a];
+    shift_down(t, a, e, (i - k) * w);
+    if key == x {
+        return k;
+    }
+    k + 1
+}
+
+// The rows of the key x are taken out, and the room that they leave is zeroed.
+pub fn drop_rows(t: &mut [u64], w: usize, cap: usize, x: u64)
+    requires { ⌜ (length (now t) ≡ 1 + cap * w) × (cap < 4096) × (0 < w) × (w < 4096) ⌝ }
+    ensures { λ _. ⌜ ((rs : List (Row w)) → now (t .entry) ≡ table wordsIn w cap rs → length rs ≤ cap →
+        now (t .exit) ≡ table wordsIn w cap (without keyIn x rs)) ⌝ }
+{
+    let n = rows_within(t, cap);
+    let mut k: usize = 0;
+    let mut i: usize = 0;
+    while i < n {
+        k = keep_row(t, w, k, i, x);
+        i += 1;
+    }
+    let a = 1 + k * w;
+    let e = 1 + n * w;
+    clear(&mut t[a..e]);
+    t[0] = k as u64;
+}
+
+// ---- Lists of ids: rows of one word
+
+pub fn push(t: &mut [u64], cap: usize, x: u64)
+    requires { ⌜ (length (now t) ≡ 1 + cap) × (cap < 4096) ⌝ }
+    ensures { λ _. ⌜ ((l : List ℕ) → now (t .entry) ≡ idTable cap l → length l < cap → now (t .exit) ≡ idTable cap (l ++ x ∷ [])) ⌝ }
+{
+    let n = t[0] as usize;
+    if cap <= n {
+        return;
+    }
+    t[1 + n] = x;
+    t[0] = (n + 1) as u64;
+}
+
+pub fn contains(t: &[u64], cap: usize, x: u64) -> bool
+    requires { ⌜ (length (now t) ≡ 1 + cap) × (cap < 4096) ⌝ }
+    ensures { λ r. ⌜ ((l : List ℕ) → now (t .entry) ≡ idTable cap l → length l ≤ cap → r ≡ has x l) ⌝ }
+{
+    let n = rows_within(t, cap);
+    let mut found = false;
+    let mut i: usize = 0;
+    while i < n {
+        found = found | (t[1 + i] == x);
+        i += 1;
+    }
+    found
+}
