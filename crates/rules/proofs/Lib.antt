@@ -3,3 +3,5 @@ pub mod Cases
 pub mod Counts
 pub mod Tables
 pub mod Tests
+pub mod Seats
+pub mod SeatsMoves
