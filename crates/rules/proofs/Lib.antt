@@ -5,3 +5,4 @@ pub mod Tables
 pub mod Tests
 pub mod Seats
 pub mod SeatsMoves
+pub mod SeatsTurns
