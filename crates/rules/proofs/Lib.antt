@@ -3,6 +3,8 @@ pub mod Cases
 pub mod Counts
 pub mod Tables
 pub mod Tests
+pub mod SeatsLaws
 pub mod Seats
 pub mod SeatsMoves
 pub mod SeatsTurns
+pub mod SeatsFormed
