@@ -8,3 +8,5 @@ pub mod Seats
 pub mod SeatsMoves
 pub mod SeatsTurns
 pub mod SeatsFormed
+pub mod SeatsRotations
+pub mod SeatsPlaces

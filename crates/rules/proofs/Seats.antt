@@ -80,10 +80,17 @@ halfAt x r = occ x (r .left) + occ x (r .right)
 abbrev pub inHalves : Board → Shard → Id → ℕ
 inHalves b s x = tally (halfAt x) (at s (b .reshapes))
 
+-- a number of each rotation, added up
+unfoldable pub total : (Rotation → ℕ) → List Rotation → ℕ
+total g [] = 0
+total g (r ∷ l) = g r + total g l
+
+abbrev pub partyOf : Shard → Id → Rotation → ℕ
+partyOf s x r = hit s (r .shard) * (hit x (r .victim) + hit x (r .entrant))
+
 -- how often an id is a party of the shard's rotations
-unfoldable pub party : Shard → Id → List Rotation → ℕ
-party s x [] = 0
-party s x (r ∷ l) = hit s (r .shard) * (hit x (r .victim) + hit x (r .entrant)) + party s x l
+abbrev pub party : Shard → Id → List Rotation → ℕ
+party s x l = total (partyOf s x) l
 
 abbrev pub commN : Board → Shard → ℕ
 commN b s = tally unit (at s (b .committees))

@@ -32,6 +32,10 @@ pub bit-most : (c : Bool) → bitOf c ≤ 1
 bit-most true = omega arith
 bit-most false = omega arith
 
+pub of-no : (c : Bool) → not c ≡ false → c ≡ true
+of-no true h = refl
+of-no false h = absurd (true≢false h)
+
 -- what stands at a key passes a test: its number is 1
 pub holds-bit : {A : Type 0} (f : A → Bool) (g : A → ℕ) → ((a : A) → bitOf (f a) ≡ g a) → (k : ℕ) (t : Table A) → bitOf (holdsAt k f t) ≡ tally g (at k t)
 unfolding holdsAt tally
