@@ -274,7 +274,7 @@ rotate-turn s v draws b may ids h = checked-ends Seats _ _ (λ k.
     comm = sym (stands-bit s (b .committees)) ∙ bit-yes _ (there .0)
 
     none-there : splitN b s ≡ 0
-    none-there = sym (holds-bit (isKind split) (λ r. ofSplit (r .kind) 1) split-bit s (b .reshapes)) ∙ bit-no _ (of-not _ (and-parts _ _ (there .1) .0))
+    none-there = sym (holds-bit (isKind split) (λ r. ofSplit (r .kind) 1) split-bit s (b .reshapes)) ∙ bit-no (reshapeAt split s b) (of-not (reshapeAt split s b) (and-parts _ _ (there .1) .0))
 
     calm : schedN b s ≡ 0
     calm = omega (arith, sched-split (at s (b .reshapes)), none-there)
