@@ -10,3 +10,4 @@ pub mod SeatsTurns
 pub mod SeatsFormed
 pub mod SeatsRotations
 pub mod SeatsPlaces
+pub mod SeatsReshapes

@@ -188,6 +188,16 @@ unfolding tally
 here-sum s none = refl
 here-sum s (some p) = refl
 
+-- a place is on one shard at the most
+pub here-most : (s : Shard) (o : Option Place) → tally (hereAt s) o ≤ 1
+unfolding tally seatsAt watchesAt
+here-most s none = omega arith
+here-most s (some Pooled) = omega arith
+here-most s (some (Seated t r w)) = omega (arith, hit-most s (t .0))
+here-most s (some (Observing t w)) = omega (arith, hit-most s (t .0))
+here-most s (some Short) = omega arith
+here-most s (some (Other m)) = omega arith
+
 -- ---- the tests and the numbers say the same
 
 pub seats-bit : (s : Shard) (p : Place) → bitOf (isSeatedOn s p) ≡ seatsAt s p

@@ -7,9 +7,9 @@ use Prim.Native.Nat.{ℕ, _+_, _≤_}
 use native.Mathlib.Omega.{arith}
 use lib.Dec.{eqb, leb}
 use Rattle.rules.specs.Lists.{_and_, _or_, bitOf, any, has, distinct, insert, sort}
-use Rattle.rules.specs.Table.{Table, at, stands, holdsAt, isSome}
+use Rattle.rules.specs.Table.{Table, at, stands, holdsAt, keysWhere, isSome}
 use Rattle.rules.proofs.Counts.{Alike, same, apart, alike, hit, hit-same, hit-apart, hit-most, occ}
-use Rattle.rules.proofs.Tables.{tally}
+use Rattle.rules.proofs.Tables.{From, tally, occ-keysWhere}
 use Rattle.rules.proofs.Tests.{and-parts, and-joins, or-left, or-right, of-not, not-of, le-of, of-le, lt-of-no, has-occ}
 
 -- ---- a test is 1 or 0
@@ -32,6 +32,11 @@ pub bit-most : (c : Bool) → bitOf c ≤ 1
 bit-most true = omega arith
 bit-most false = omega arith
 
+pub and-most : (a c : Bool) → bitOf (a and c) ≤ bitOf a
+unfolding _and_
+and-most true c = bit-most c
+and-most false c = omega arith
+
 pub of-no : (c : Bool) → not c ≡ false → c ≡ true
 of-no true h = refl
 of-no false h = absurd (true≢false h)
@@ -45,6 +50,11 @@ holds-bit {A} f g e k t = go (at k t)
     go none = refl
     go (some v) = e v
 
+pub tally-le : {A : Type 0} (g k : A → ℕ) → ((a : A) → g a ≤ k a) → (o : Option A) → tally g o ≤ tally k o
+unfolding tally
+tally-le g k h none = omega arith
+tally-le g k h (some a) = h a
+
 pub some-bit : {A : Type 0} (o : Option A) → bitOf (isSome o) ≡ tally (λ a. 1) o
 unfolding isSome tally
 some-bit none = refl
@@ -53,6 +63,15 @@ some-bit (some v) = refl
 pub stands-bit : {A : Type 0} (k : ℕ) (t : Table A) → bitOf (stands k t) ≡ tally (λ a. 1) (at k t)
 unfolding stands
 stands-bit k t = some-bit (at k t)
+
+-- a key that is listed by a test: what stands there passes it
+pub listed : {A : Type 0} (f : A → Bool) (k : ℕ) (t : Table A) → From 0 t → 1 ≤ occ k (keysWhere f t) → (v : A) × (at k t ≡ some v) × (f v ≡ true)
+unfolding tally
+listed {A} f k t r h = go (at k t) refl (omega (arith, occ-keysWhere f k 0 t r))
+  where
+    go : (o : Option A) → at k t ≡ o → 1 ≤ tally (λ v. bitOf (f v)) o → (v : A) × (at k t ≡ some v) × (f v ≡ true)
+    go none e n = absurd (omega arith)
+    go (some v) e n = (v, e, yes-bit (f v) n)
 
 -- ---- a number is in a list
 

@@ -2,8 +2,8 @@
 use mathlib.Core.Path.{_≡_, refl, ap, sym, _∙_}
 use mathlib.Core.Logic.{_≢_}
 use mathlib.Core.List.{List, [], _∷_, _++_}
-use mathlib.Core.Option.{Option, none, some, Option·map}
-use mathlib.Core.Bool.{Bool, true, false, cond}
+use mathlib.Core.Option.{Option, none, some, Option·map, Option·some-injective}
+use mathlib.Core.Bool.{Bool, true, false, cond, false≢true}
 use Prim.Native.Nat.{ℕ, _+_, _*_, _≤_}
 use native.Mathlib.Omega.{arith}
 use lib.Dec.{eqb}
@@ -11,10 +11,10 @@ use Rattle.types.specs.Numbers.{Shard, Id, Epoch}
 use Rattle.types.specs.Places.{shardId, epochAt, drawnTo, setToWatch}
 use Rattle.types.specs.declared.Place.{Place}
 use Rattle.types.specs.declared.Place.the-variants.{Pooled, Seated, Observing, Short, Other}
-use Rattle.rules.specs.Lists.{strike}
+use Rattle.rules.specs.Lists.{bitOf, strike}
 use Rattle.rules.specs.Table.{Table, at, put, remove, each, update}
 use Rattle.rules.specs.Board.{Boundary, Rotation, Kind, split, merge, Seat, Reshape, Board, onMachines, onCommittees, onBounds, onRotations, onReshapes, epochOf}
-use Rattle.rules.specs.Moves.{membersOf, place, join, quit, putOn, takeOff, withSeats, newSeat, watch}
+use Rattle.rules.specs.Moves.{membersOf, place, join, quit, putOn, takeOff, withSeats, isKind, newSeat, watch}
 use Rattle.rules.proofs.Counts.{Alike, same, apart, alike, hit, hit-same, hit-apart, occ, occ-nil, occ-append, occ-single, occ-strike}
 use Rattle.rules.proofs.Tables.{tally, at-each, tally-update, tally-put, tally-remove, tally-same, tally-each, known-put}
 use Rattle.rules.proofs.Seats.{seatsAt, watchesAt, hereAt, pooledAt, unit, told, inC, ofSplit, sitting, inSplit, schedAt, schedN, halfAt, inHalves, party, commN, boundN, kindOf, kindAt, Frame, Frame-same, Seats, seats-most, Nowhere, moved}
@@ -59,6 +59,23 @@ kind-update s t f c e = rw (at-each (λ k v. cond (eqb k s) (f v) v) t c) (go (a
     go (some r) true = ap some (e r)
     go (some r) false = refl
 
+-- the kind of what stands at a shard
+pub kind-of : (t : Shard) (r : Reshape) (k : Kind) (b : Board) → at t (b .reshapes) ≡ some r → kindAt b t ≡ some k → r .kind ≡ k
+kind-of t r k b e h = Option·some-injective (r .kind) k (rw e at h)
+
+pub kind-is : (k : Kind) (r : Reshape) → isKind k r ≡ true → r .kind ≡ k
+unfolding isKind
+kind-is split r h = go (r .kind) h
+  where
+    go : (k : Kind) → (elim k [ split ↦ true | merge ↦ false ]) ≡ true → k ≡ split
+    go split e = refl
+    go merge e = absurd (false≢true e)
+kind-is merge r h = go (r .kind) h
+  where
+    go : (k : Kind) → (elim k [ split ↦ false | merge ↦ true ]) ≡ true → k ≡ merge
+    go split e = absurd (false≢true e)
+    go merge e = refl
+
 -- a change that leaves a reshape's kind, terminal and halves
 pub record Steady (f : Reshape → Reshape) : Type 0 where
   pub kind : (r : Reshape) → f r .kind ≡ r .kind
@@ -81,6 +98,14 @@ module _ (t : Shard) (f : Reshape → Reshape) (c : Table Reshape) (q : Steady f
 -- a split at the shard
 abbrev pub splitN : Board → Shard → ℕ
 splitN b s = tally (λ r. ofSplit (r .kind) 1) (at s (b .reshapes))
+
+pub split-bit : (r : Reshape) → bitOf (isKind split r) ≡ ofSplit (r .kind) 1
+unfolding isKind ofSplit
+split-bit r = go (r .kind)
+  where
+    go : (k : Kind) → bitOf (elim k [ split ↦ true | merge ↦ false ]) ≡ ofSplit k 1
+    go split = refl
+    go merge = refl
 
 pub kind-split : (o : Option Reshape) → 1 ≤ tally (λ r. ofSplit (r .kind) 1) o → kindOf o ≡ some split
 unfolding tally ofSplit

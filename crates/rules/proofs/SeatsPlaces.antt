@@ -28,7 +28,7 @@ use Rattle.rules.proofs.Tests.{and-parts, of-not, eq-of}
 use Rattle.rules.proofs.SeatsLaws.{bit-yes, bit-no, of-no, holds-bit, some-bit, stands-bit}
 use Rattle.rules.proofs.SeatsFormed.{Formed}
 use Rattle.rules.proofs.Seats.{seatsAt, watchesAt, hereAt, unit, told, inC, ofSplit, sitting, inSplit, schedAt, schedN, halfAt, total, partyOf, party, commN, boundN, kindAt, Frame, Frame-same, Seats, seats-most, seat-of, watch-of, here-sum, seats-bit, Nowhere, nowhere-short, nowhere-pooled, moved}
-use Rattle.rules.proofs.SeatsMoves.{quit-law, stands-of, Steady, steady-sched, splitN, seat-keeps, unseat-keeps, turns-keep, fewer-keep, unseen-keeps, Leaving, left-all, leaving, unwatch-keeps}
+use Rattle.rules.proofs.SeatsMoves.{quit-law, stands-of, Steady, steady-sched, splitN, split-bit, seat-keeps, unseat-keeps, turns-keep, fewer-keep, unseen-keeps, Leaving, left-all, leaving, unwatch-keeps}
 use Rattle.rules.proofs.SeatsRotations.{total-open, total-drop, drop-least, drop-most, none-total, some-total, total-keep, party-yes, party-no}
 use Rattle.rules.proofs.SeatsTurns.{Ends, checked-ends, alone-ends, pool-ends}
 
@@ -239,14 +239,6 @@ rotate-one s v x b e c d on free h =
     spare t y (same p q) (same k l) = rw (p, k, free) (simp hit-same (omega arith))
     spare t y (same p q) (apart k l) = rw (hit-apart y v k) (omega (arith, h .parties t y))
     spare t y (apart p q) k = rw (hit-apart t s p) (omega (arith, h .parties t y))
-
-split-bit : (r : Reshape) → bitOf (isKind split r) ≡ ofSplit (r .kind) 1
-unfolding isKind ofSplit
-split-bit r = go (r .kind)
-  where
-    go : (k : Kind) → bitOf (elim k [ split ↦ true | merge ↦ false ]) ≡ ofSplit k 1
-    go split = refl
-    go merge = refl
 
 -- only splits are scheduled
 pub sched-split : (o : Option Reshape) → tally schedAt o ≤ tally (λ r. ofSplit (r .kind) 1) o
