@@ -11,3 +11,4 @@ pub mod SeatsFormed
 pub mod SeatsRotations
 pub mod SeatsPlaces
 pub mod SeatsReshapes
+pub mod SeatsFrame

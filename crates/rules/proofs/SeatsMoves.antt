@@ -95,6 +95,16 @@ module _ (t : Shard) (f : Reshape → Reshape) (c : Table Reshape) (q : Steady f
   pub steady-half : (s : Shard) (x : Id) → tally (halfAt x) (at s (update t f c)) ≡ tally (halfAt x) (at s c)
   steady-half s x = tally-same (halfAt x) f (q .halves x) s t c
 
+-- nothing counted is nothing, whatever the kind; so an empty cohort has no seat
+pub none-split : (k : Kind) → ofSplit k 0 ≡ 0
+unfolding ofSplit
+none-split split = refl
+none-split merge = refl
+
+pub no-seats : (x : Id) (k : Kind) → ofSplit k (tally {A = Seat} unit (at x [])) ≡ 0
+unfolding at tally
+no-seats x k = none-split k
+
 -- a split at the shard
 abbrev pub splitN : Board → Shard → ℕ
 splitN b s = tally (λ r. ofSplit (r .kind) 1) (at s (b .reshapes))

@@ -28,7 +28,7 @@ use Rattle.rules.proofs.Tests.{and-parts, of-not}
 use Rattle.rules.proofs.SeatsLaws.{bit-yes, bit-no, yes-bit, bit-most, and-most, of-no, holds-bit, listed, tally-le, occ-sort}
 use Rattle.rules.proofs.SeatsFormed.{Sound, Formed}
 use Rattle.rules.proofs.Seats.{seatsAt, watchesAt, hereAt, pooledAt, unit, told, inC, ofSplit, sitting, inSplit, schedAt, schedN, halfAt, inHalves, total, partyOf, party, commN, boundN, kindOf, kindAt, Frame, Frame-same, Seats, seats-most, seat-of, watch-of, pool-of, here-sum, here-most, seats-bit, Nowhere, nowhere-pooled, moved}
-use Rattle.rules.proofs.SeatsMoves.{occ-members, kind-of, kind-is, Steady, steady-seats, kind-update, splitN, split-bit, fewer-keep, unseen-keeps, Leaving, left-all, leaving, unwatch-keeps, watch-keeps}
+use Rattle.rules.proofs.SeatsMoves.{occ-members, no-seats, kind-of, kind-is, Steady, steady-seats, kind-update, splitN, split-bit, fewer-keep, unseen-keeps, Leaving, left-all, leaving, unwatch-keeps, watch-keeps}
 use Rattle.rules.proofs.SeatsRotations.{total-keep, party-gone, entrants-party}
 use Rattle.rules.proofs.SeatsTurns.{Ends, checked-ends, drawn-ends, alone-ends, batch-ends}
 use Rattle.rules.proofs.SeatsPlaces.{unseat-pooled}
@@ -131,12 +131,6 @@ cohort-occ t x b wf sp = go (at t (b .reshapes)) refl sp
     go : (o : Option Reshape) → at t (b .reshapes) ≡ o → tally (λ r. ofSplit (r .kind) 1) o ≡ 1 → occ x (elim o [ none ↦ [] | some r ↦ keysWhere (λ v. true) (r .seats) ]) ≡ tally (sitting x) o
     go none e z = refl
     go (some r) e z = per (r .kind) (r .seats) z (wf .sound t r e .rows)
-
--- an empty cohort has no seat
-no-seats : (x : Id) (k : Kind) → ofSplit k (tally {A = Seat} unit (at x [])) ≡ 0
-unfolding at tally ofSplit
-no-seats x split = refl
-no-seats x merge = refl
 
 released-keeps : (t : Shard) (b : Board) → Formed b → splitN b t ≡ 1 → Seats b → Seats (released t b)
 unfolding released takeOff quit place tally
