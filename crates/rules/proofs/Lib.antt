@@ -12,3 +12,4 @@ pub mod SeatsRotations
 pub mod SeatsPlaces
 pub mod SeatsReshapes
 pub mod SeatsFrame
+pub mod SeatsCutting
