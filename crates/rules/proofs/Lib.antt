@@ -13,3 +13,5 @@ pub mod SeatsPlaces
 pub mod SeatsReshapes
 pub mod SeatsFrame
 pub mod SeatsCutting
+pub mod SeatsRecast
+pub mod SeatsCut

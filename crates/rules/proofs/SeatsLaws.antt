@@ -55,6 +55,12 @@ unfolding tally
 tally-le g k h none = omega arith
 tally-le g k h (some a) = h a
 
+-- where nothing stands, nothing is told
+pub none-told : {A : Type 0} (g : A → ℕ) (o : Option A) → tally (λ a. 1) o ≡ 0 → tally g o ≡ 0
+unfolding tally
+none-told g none h = refl
+none-told g (some a) h = absurd (omega arith)
+
 pub some-bit : {A : Type 0} (o : Option A) → bitOf (isSome o) ≡ tally (λ a. 1) o
 unfolding isSome tally
 some-bit none = refl

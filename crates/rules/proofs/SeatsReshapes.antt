@@ -29,7 +29,7 @@ use Rattle.rules.proofs.SeatsLaws.{bit-yes, bit-no, yes-bit, bit-most, 
 use Rattle.rules.proofs.SeatsFormed.{Sound, Formed}
 use Rattle.rules.proofs.Seats.{seatsAt, watchesAt, hereAt, pooledAt, unit, told, inC, ofSplit, sitting, inSplit, schedAt, schedN, halfAt, inHalves, total, partyOf, party, commN, boundN, kindOf, kindAt, Frame, Frame-same, Seats, seats-most, seat-of, watch-of, pool-of, here-sum, here-most, seats-bit, Nowhere, nowhere-pooled, moved}
 use Rattle.rules.proofs.SeatsMoves.{occ-members, no-seats, kind-of, kind-is, Steady, steady-seats, kind-update, splitN, split-bit, fewer-keep, unseen-keeps, Leaving, left-all, leaving, unwatch-keeps, watch-keeps}
-use Rattle.rules.proofs.SeatsRotations.{total-keep, party-gone, entrants-party}
+use Rattle.rules.proofs.SeatsRotations.{party-gone, party-fewer, entrants-party}
 use Rattle.rules.proofs.SeatsTurns.{Ends, checked-ends, drawn-ends, alone-ends, batch-ends}
 use Rattle.rules.proofs.SeatsPlaces.{unseat-pooled}
 
@@ -165,13 +165,13 @@ abort-all s (x ∷ l) b o free h =
     free (unseat-pooled s x b (omega (arith, o x, hit-same x)) (free x) h)
 
 pub abort-keeps : (s : Shard) (b : Board) → Seats b → Seats (abortRotations s b)
-unfolding abortRotations takeOff quit place dropRotations
+unfolding abortRotations takeOff quit place
 abort-keeps s b h =
     rw (forAll-swap (onRotations (dropRotations s)) (takeOff s (pooledFrom (isSeatedOn s))) (λ x c. refl) (entrantsOn s (b .rotations)) b)
     (abort-all s (entrantsOn s (b .rotations)) (onRotations (dropRotations s) b)
     (λ x. omega (arith, entrants-party s x (b .rotations), h .parties s x))
     (λ x. party-gone s x (b .rotations))
-    (fewer-keep (dropRotations s) b (λ t y. total-keep (partyOf t y) _ (b .rotations)) h))
+    (fewer-keep (dropRotations s) b (λ t y. party-fewer s t y (b .rotations)) h))
 
 abort-party : (s : Shard) (x : Id) (b : Board) → party s x (abortRotations s b .rotations) ≡ 0
 unfolding abortRotations

@@ -137,6 +137,10 @@ party-stays s t x l n = keep-all (partyOf t x) (λ r. not (isOn s r)) (λ r e. r
     off : (r : Rotation) → not (isOn s r) ≡ false → t ≢ r .shard
     off r e p = n (p ∙ eq-of _ _ (of-no _ e))
 
+pub party-fewer : (s t : Shard) (x : Id) (l : List Rotation) → party t x (dropRotations s l) ≤ party t x l
+unfolding dropRotations
+party-fewer s t x l = total-keep (partyOf t x) (λ r. not (isOn s r)) l
+
 -- entrants are parties
 pub entrants-party : (s : Shard) (x : Id) (l : List Rotation) → occ x (entrantsOn s l) ≤ party s x l
 unfolding entrantsOn total occ
