@@ -14,4 +14,6 @@ pub mod SeatsReshapes
 pub mod SeatsFrame
 pub mod SeatsCutting
 pub mod SeatsRecast
+pub mod SeatsSplit
+pub mod SeatsMerge
 pub mod SeatsCut

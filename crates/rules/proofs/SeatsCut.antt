@@ -1,161 +1,151 @@
--- The cuts keep the seat check: each who was on an old shard lands on a new one, or is pooled.
+-- The cuts keep the seat check, shard after shard.
 use mathlib.Core.Path.{_≡_, refl, ap, sym, _∙_}
-use mathlib.Core.Logic.{_≢_}
-use mathlib.Core.List.{List, [], _∷_, _++_, append-nil}
-use mathlib.Core.Option.{Option, none, some, Option·none-ne-some}
-use mathlib.Core.Bool.{Bool, true, false, cond, not, false≢true}
-use Prim.Native.Nat.{ℕ, _+_, _*_, _≤_, zero-le}
+use mathlib.Core.List.{List, [], _∷_, _++_}
+use mathlib.Core.Option.{Option, none, some, Option·none-ne-some, Option·some-injective}
+use mathlib.Core.Bool.{Bool, true, false, cond, false≢true}
+use Prim.Native.Nat.{ℕ, _≤_}
 use native.Mathlib.Omega.{arith}
 use lib.Dec.{eqb, leb}
-use Rattle.types.specs.Numbers.{Shard, Id}
+use Rattle.types.specs.Numbers.{Shard, Id, Epoch}
 use Rattle.types.specs.Shards.{leftOf, rightOf}
-use Rattle.types.specs.Places.{shardId, epochAt, isSeatedOn, isObserving, pooled, movedTo, keptOn, seatedFromWatch}
-use Rattle.types.specs.declared.ShardId.{ShardId}
-use Rattle.types.specs.declared.Epoch.{Epoch}
+use Rattle.types.specs.Places.{isSeatedOn, isObserving, movedTo, keptOn, seatedFromWatch}
 use Rattle.types.specs.declared.Place.{Place}
-use Rattle.types.specs.declared.Place.the-variants.{Pooled, Seated, Observing, Short, Other}
-use Rattle.rules.specs.Lists.{_and_, _or_, bitOf, keep}
-use Rattle.rules.specs.Table.{Entry, Table, at, stands, put, remove, keysWhere, keysOf}
-use Rattle.rules.specs.Board.{Kind, split, merge, Seat, Reshape, Board, onMachines, onCommittees, epochOf}
-use Rattle.rules.specs.Moves.{membersOf, place, join, putOn, forAll, isKind, childrenOf, heightOf}
-use Rattle.rules.specs.Turns.{Turn, finished, checked, batch}
-use Rattle.rules.specs.Cut.{isTerminal, due, recast, cutFaults, settle, cohortFor, settleChild, cutSplitOf, cutSplit, cutSplits, others, rejoin, larger, cutMergeOf, cutMerge, cutMerges}
-use Rattle.rules.proofs.Counts.{Alike, same, apart, alike, eqb-same, hit, hit-same, hit-apart, hit-sym, occ, occ-append, occ-keep}
-use Rattle.rules.proofs.Tables.{From, at-remove, tally, known-most, occ-keysWhere}
-use Rattle.rules.proofs.Tests.{and-parts, or-cases, or-left, or-right, of-eq}
-use Rattle.rules.proofs.SeatsLaws.{bit-yes, listed, stands-bit, tally-le}
+use Rattle.rules.specs.Lists.{_and_, _or_}
+use Rattle.rules.specs.Table.{Table, at, remove}
+use Rattle.rules.specs.Board.{Kind, split, merge, Seat, Reshape, Board, epochOf}
+use Rattle.rules.specs.Moves.{place, join, putOn, forAll, isKind, heightOf}
+use Rattle.rules.specs.Turns.{finished, checked, batch}
+use Rattle.rules.specs.Cut.{isTerminal, due, recast, settle, settleChild, cutSplitOf, cutSplit, cutSplits, rejoin, larger, cutMergeOf, cutMerge, cutMerges}
+use Rattle.rules.proofs.Counts.{occ}
+use Rattle.rules.proofs.Tables.{at-remove, tally}
+use Rattle.rules.proofs.Tests.{and-parts}
+use Rattle.rules.proofs.SeatsLaws.{listed}
 use Rattle.rules.proofs.SeatsFormed.{Sound, Formed}
-use Rattle.rules.proofs.Seats.{seatsAt, watchesAt, hereAt, unit, told, inC, ofSplit, sitting, inSplit, schedAt, schedN, halfAt, inHalves, commN, kindAt, Seats, seats-most, watch-of, here-sum, here-most, nowhere-pooled}
-use Rattle.rules.proofs.SeatsMoves.{occ-members, kind-is}
+use Rattle.rules.proofs.Seats.{unit, ofSplit, schedAt, Seats}
+use Rattle.rules.proofs.SeatsMoves.{kind-is}
 use Rattle.rules.proofs.SeatsTurns.{Ends, checked-ends, batch-ends}
 use Rattle.rules.proofs.SeatsReshapes.{forAll-keeps}
-use Rattle.rules.proofs.SeatsCutting.{strayAt, stray-here, stray-of, Cutting, cut-done, cut-pass, cut-clear, cut-land}
-use Rattle.rules.proofs.SeatsRecast.{recast-machines, recast-reshapes, recast-cutting}
+use Rattle.rules.proofs.SeatsRecast.{recast-reshapes}
+use Rattle.rules.proofs.SeatsSplit.{cut-split-keeps}
+use Rattle.rules.proofs.SeatsMerge.{cut-merge-keeps}
 
--- ---- who is still on the old shards, shard by shard
+-- a reshape that was due when the call began
+record Due (k : Kind) (t : Shard) (r : Reshape) : Type 0 where
+  sound : Sound t r
+  kind : r .kind ≡ k
+  set : tally unit (r .terminal) ≡ 1
 
-stray-cons : (s : Shard) (l : List Shard) (o : Option Place) → tally (strayAt (s ∷ l)) o ≡ tally (hereAt s) o + tally (strayAt l) o
-unfolding tally strayAt seatsAt watchesAt occ
-stray-cons s l none = refl
-stray-cons s l (some Pooled) = refl
-stray-cons s l (some (Seated t r w)) = omega (arith, hit-sym s (t .0))
-stray-cons s l (some (Observing t w)) = omega (arith, hit-sym s (t .0))
-stray-cons s l (some Short) = refl
-stray-cons s l (some (Other m)) = refl
+terminal-set : (epoch : Epoch) (r : Reshape) → isTerminal epoch r ≡ true → tally unit (r .terminal) ≡ 1
+unfolding isTerminal tally
+terminal-set epoch r h = go (r .terminal) h
+  where
+    go : (o : Option Epoch) → (elim o [ none ↦ false | some e ↦ leb e epoch ]) ≡ true → tally unit o ≡ 1
+    go none z = absurd (false≢true z)
+    go (some e) z = refl
 
-stray-nil : (o : Option Place) → tally (strayAt []) o ≡ 0
-unfolding tally strayAt occ
-stray-nil none = refl
-stray-nil (some Pooled) = refl
-stray-nil (some (Seated t r w)) = refl
-stray-nil (some (Observing t w)) = refl
-stray-nil (some Short) = refl
-stray-nil (some (Other m)) = refl
+was-due : (k : Kind) (b : Board) → Formed b → (t : Shard) → 1 ≤ occ t (due k b) → (r : Reshape) → at t (b .reshapes) ≡ some r → Due k t r
+unfolding due
+was-due k b wf t o r e =
+    let q = listed _ t (b .reshapes) (wf .targets) o in
+    let f = and-parts _ _ (q .2) in
+    let same-one : q .0 ≡ r = Option·some-injective (q .0) r (sym (q .1) ∙ e) in
+    record { sound = wf .sound t r e; kind = sym (ap (λ v. v .kind) same-one) ∙ kind-is k (q .0) (f .0); set = sym (ap (λ v. tally unit (v .terminal)) same-one) ∙ terminal-set (epochOf b) (q .0) (f .1) }
 
--- ---- one of the list
+-- of a batch of cuts: reshapes only go
+record Shrunk (b c : Board) : Type 0 where
+  seats : Seats c
+  less : (t : Shard) (r : Reshape) → at t (c .reshapes) ≡ some r → at t (b .reshapes) ≡ some r
 
-module _ (old new : List Shard) (b₀ : Board) (x : Id) (rest : List Id) (d : Board) (g : Cutting old new b₀ (x ∷ rest) d) where
-  -- not astray: passed over
-  pass : (p : Place) → at x (d .machines) ≡ some p → strayAt old p ≡ 0 → Cutting old new b₀ rest d
-  unfolding tally
-  pass p e z = cut-pass old new b₀ x rest d (rw e z) g
+shrunk : (b c d : Board) (t : Shard) → Shrunk b c → d .reshapes ≡ remove t (c .reshapes) → Seats d → Shrunk b d
+shrunk b c d t h e k = record { seats = k; less = λ u r p. h .less u r (go u r (eqb u t) (rw (e, at-remove u t (c .reshapes)) at p)) }
+  where
+    go : (u : Shard) (r : Reshape) (z : Bool) → cond z none (at u (c .reshapes)) ≡ some r → at u (c .reshapes) ≡ some r
+    go u r true p = absurd (Option·none-ne-some r p)
+    go u r false p = p
 
-  pass-none : at x (d .machines) ≡ none → Cutting old new b₀ rest d
-  unfolding tally
-  pass-none e = cut-pass old new b₀ x rest d (rw e) g
+-- a move leaves the reshapes
+abbrev OnReshapes : Board → Board → Type 0
+OnReshapes b c = c .reshapes ≡ b .reshapes
 
-  -- astray: seated on a new shard
-  land : (c : Shard) → 1 ≤ occ c new → (move : Place → Place) (p : Place) (u : ShardId) (s : Bool) (w : Epoch) → at x (d .machines) ≡ some p → 1 ≤ strayAt old p → move p ≡ Seated u s w → u .0 ≡ c
-      → Cutting old new b₀ rest (putOn c move x d)
-  unfolding strayAt seatsAt watchesAt
-  land c k move p u s w e lost m v = cut-land old new b₀ x move p rest d e lost g (rw (m, v) (g .fresh c k .2)) c k (λ i. rw (m, v)) (λ i. rw m)
+-- ---- CUT SPLITS
 
--- ---- A SPLIT IS CUT
+settle-reshapes : (t c : Shard) (seats : Table Seat) (x : Id) (b : Board) → settle t c seats x b .reshapes ≡ b .reshapes
+unfolding settle putOn join place
+settle-reshapes t c seats x b = go (at x (b .machines))
+  where
+    pick : (z : Bool) (move : Place → Place) (d : Board) → d .reshapes ≡ b .reshapes → (cond z (putOn c move x b) d) .reshapes ≡ b .reshapes
+    pick true move d e = refl
+    pick false move d e = e
 
-module _ (t : Shard) (r : Reshape) (b : Board) (er : at t (b .reshapes) ≡ some r) (ks : r .kind ≡ split) (h : Seats b) where
-  -- who watches has a seat, and who has a seat watches the target and no other shard
-  has-seat : (x : Id) → told (watchesAt t) b x ≡ tally unit (at x (r .seats))
-  unfolding tally ofSplit
-  has-seat x = sym (h .watchers t x) ∙ rw (er, ks)
+    look : (p : Place) (o : Option Seat) → OnReshapes b (elim o [ none ↦ b | some q ↦ cond (isObserving p) (putOn c (seatedFromWatch c (q .ready) (epochOf b)) x b) b ])
+    look p none = refl
+    look p (some q) = pick (isObserving p) (seatedFromWatch c (q .ready) (epochOf b)) b refl
 
-  one-eye : (u : Shard) (x : Id) → u ≢ t → 1 ≤ tally unit (at x (r .seats)) → told (watchesAt u) b x ≡ 0
-  unfolding tally watchesAt
-  one-eye u x n k = let q = watch-of t (at x (b .machines)) (omega (arith, has-seat x)) in rw (q .2) (hit-apart u _ (λ e. n (e ∙ q .3)))
+    go : (o : Option Place) → OnReshapes b (elim o [
+      | none ↦ b
+      | some p ↦ cond (isSeatedOn t p) (putOn c (movedTo c) x b) (elim (at x seats) [ none ↦ b | some q ↦ cond (isObserving p) (putOn c (seatedFromWatch c (q .ready) (epochOf b)) x b) b ])
+    ])
+    go none = refl
+    go (some p) = pick (isSeatedOn t p) (movedTo c) _ (look p (at x seats))
 
-  -- seated on the target, or watching it, one is settled; else passed over
-  settle-one : (c : Shard) → 1 ≤ occ c (childrenOf t) → (x : Id) (rest : List Id) (d : Board) → Cutting (t ∷ []) (childrenOf t) b (x ∷ rest) d → Cutting (t ∷ []) (childrenOf t) b rest (settle t c (r .seats) x d)
-  unfolding settle tally strayAt watchesAt occ
-  settle-one c k x rest d g = go (at x (d .machines)) refl
-    where
-      Out : Board → Type 0
-      Out c = Cutting (t ∷ []) (childrenOf t) b rest c
+split-turn : (b : Board) (t : Shard) (draws : List ℕ) (c : Board) → ((r : Reshape) → at t (b .reshapes) ≡ some r → Due split t r) → Shrunk b c → Ends (Shrunk b) (cutSplit t draws c)
+unfolding cutSplit cutSplitOf settleChild Ends ofSplit
+split-turn b t draws c was h = go (at t (c .reshapes)) refl
+  where
+    cut : (r : Reshape) → at t (c .reshapes) ≡ some r → Ends (Shrunk b) (cutSplitOf t r draws c)
+    cut r e =
+        let d = was r (h .less t r e) in
+        checked-ends (Shrunk b) _ _ (λ p. shrunk b c _ t h
+        (forAll-keeps (λ v. v .reshapes ≡ remove t (c .reshapes)) _ (λ x v k. settle-reshapes t (rightOf t) (r .seats) x v ∙ k) _ _
+        (forAll-keeps (λ v. v .reshapes ≡ remove t (c .reshapes)) _ (λ x v k. settle-reshapes t (leftOf t) (r .seats) x v ∙ k) _ _ (recast-reshapes split t (heightOf t c) c)))
+        (cut-split-keeps t r c e (d .kind) (h .seats) (d .sound) (rw (d .kind) (d .set))))
 
-      over : (p : Place) → at x (d .machines) ≡ some p → strayAt (t ∷ []) p ≡ 0 → Out d
-      over p e z = pass (t ∷ []) (childrenOf t) b x rest d g p e z
+    go : (o : Option Reshape) → at t (c .reshapes) ≡ o → Ends (Shrunk b) (elim o [ none ↦ finished 0 draws c | some r ↦ cutSplitOf t r draws c ])
+    go none e = h
+    go (some r) e = cut r e
 
-      idle : Out d → (o : Option Seat) → Out (elim o [ none ↦ d | some q ↦ d ])
-      idle z none = z
-      idle z (some q) = z
+pub cutSplits-kept : (b : Board) → Formed b → Seats b → Seats (cutSplits b .board)
+unfolding cutSplits
+cutSplits-kept b wf h = batch-ends (Shrunk b) cutSplit (due split b) [] b (λ w t ds c o. split-turn b t ds c (was-due split b wf t o)) (record { seats = h; less = λ t r e. e }) .seats
 
-      seat : (u : ShardId) (s : Bool) (w : Epoch) → at x (d .machines) ≡ some (Seated u s w) → Alike (u .0) t
-          → Out (cond (eqb (u .0) t) (putOn c (movedTo c) x d) (elim (at x (r .seats)) [ none ↦ d | some q ↦ d ]))
-      seat u s w e (same p v) = rw v (land (t ∷ []) (childrenOf t) b x rest d g c k (movedTo c) (Seated u s w) (shardId c) s w e (rw p (omega (arith, hit-same t))) refl refl)
-      seat u s w e (apart p v) = rw v (idle (over (Seated u s w) e (omega (arith, hit-apart (u .0) t p))) (at x (r .seats)))
+-- ---- CUT MERGES
 
-      seen : (u : ShardId) (w : Epoch) → at x (d .machines) ≡ some (Observing u w) → told (watchesAt (u .0)) d x ≡ 1
-      seen u w e = rw e (hit-same (u .0))
+rejoin-reshapes : (t : Shard) (keepers : Table Seat) (x : Id) (b : Board) → rejoin t keepers x b .reshapes ≡ b .reshapes
+unfolding rejoin putOn join place
+rejoin-reshapes t keepers x b = go (at x (b .machines))
+  where
+    pick : (z : Bool) (move : Place → Place) → (cond z (putOn t move x b) b) .reshapes ≡ b .reshapes
+    pick true move = refl
+    pick false move = refl
 
-      look : (u : ShardId) (w : Epoch) → at x (d .machines) ≡ some (Observing u w) → (o : Option Seat) → at x (r .seats) ≡ o → Alike (u .0) t
-          → Out (elim o [ none ↦ d | some q ↦ putOn c (seatedFromWatch c (q .ready) (epochOf d)) x d ])
-      look u w e none f (apart p v) = over (Observing u w) e (omega (arith, hit-apart (u .0) t p))
-      look u w e none f (same p v) = absurd (omega (arith, rw f at (has-seat x), g .eyes t x, rw p at (seen u w e)))
-      look u w e (some q) f (same p v) = land (t ∷ []) (childrenOf t) b x rest d g c k (seatedFromWatch c (q .ready) (epochOf d)) (Observing u w) (shardId c) (q .ready) (epochAt (epochOf d)) e (rw p (omega (arith, hit-same t))) refl refl
-      look u w e (some q) f (apart p v) = absurd (omega (arith, one-eye (u .0) x p (rw f (omega arith)), g .eyes (u .0) x, seen u w e))
+    look : (p : Place) (o : Option Seat) → OnReshapes b (elim o [ none ↦ b | some q ↦ cond (isSeatedOn (leftOf t) p or isSeatedOn (rightOf t) p) (putOn t (keptOn t (q .ready)) x b) b ])
+    look p none = refl
+    look p (some q) = pick (isSeatedOn (leftOf t) p or isSeatedOn (rightOf t) p) (keptOn t (q .ready))
 
-      go : (o : Option Place) → at x (d .machines) ≡ o → Out (elim o [
-        | none ↦ d
-        | some p ↦
-            cond (isSeatedOn t p) (putOn c (movedTo c) x d)
-            (elim (at x (r .seats)) [ none ↦ d | some q ↦ cond (isObserving p) (putOn c (seatedFromWatch c (q .ready) (epochOf d)) x d) d ])
-      ])
-      go none e = pass-none (t ∷ []) (childrenOf t) b x rest d g e
-      go (some Pooled) e = idle (over Pooled e refl) (at x (r .seats))
-      go (some (Seated u s w)) e = seat u s w e (alike (u .0) t)
-      go (some (Observing u w)) e = look u w e (at x (r .seats)) refl (alike (u .0) t)
-      go (some Short) e = idle (over Short e refl) (at x (r .seats))
-      go (some (Other m)) e = idle (over (Other m) e refl) (at x (r .seats))
+    go : (o : Option Place) → OnReshapes b (elim o [
+      | none ↦ b
+      | some p ↦ elim (at x keepers) [ none ↦ b | some q ↦ cond (isSeatedOn (leftOf t) p or isSeatedOn (rightOf t) p) (putOn t (keptOn t (q .ready)) x b) b ]
+    ])
+    go none = refl
+    go (some p) = look p (at x keepers)
 
-  settle-all : (c : Shard) → 1 ≤ occ c (childrenOf t) → (l rest : List Id) (d : Board) → Cutting (t ∷ []) (childrenOf t) b (l ++ rest) d → Cutting (t ∷ []) (childrenOf t) b rest (forAll (settle t c (r .seats)) l d)
-  unfolding forAll
-  settle-all c k [] rest d g = g
-  settle-all c k (x ∷ l) rest d g = settle-all c k l rest (settle t c (r .seats) x d) (settle-one c k x (l ++ rest) d g)
+merge-turn : (b : Board) (t : Shard) (draws : List ℕ) (c : Board) → ((r : Reshape) → at t (b .reshapes) ≡ some r → Due merge t r) → Shrunk b c → Ends (Shrunk b) (cutMerge t draws c)
+unfolding cutMerge cutMergeOf place Ends
+merge-turn b t draws c was h = go (at t (c .reshapes)) refl
+  where
+    cut : (r : Reshape) → at t (c .reshapes) ≡ some r → Ends (Shrunk b) (cutMergeOf t r draws c)
+    cut r e =
+        let d = was r (h .less t r e) in
+        let height = larger (heightOf (leftOf t) c) (heightOf (rightOf t) c) in
+        checked-ends (Shrunk b) _ _ (λ p. shrunk b c _ t h
+        (forAll-keeps (λ v. v .reshapes ≡ remove t (c .reshapes)) _ (λ x v k. rejoin-reshapes t (r .seats) x v ∙ k) _ _
+        (forAll-keeps (λ v. v .reshapes ≡ remove t (c .reshapes)) _ (λ x v k. k) _ _ (recast-reshapes merge t height c)))
+        (cut-merge-keeps t r c e (d .kind) (d .sound) (h .seats) height))
 
-  module _ (snd : Sound t r) (sc : schedAt r ≡ 1) where
-    -- the cohort of both children is all that has a seat
-    cohort-all : (x : Id) → tally unit (at x (r .seats)) ≤ occ x (cohortFor (leftOf t) (r .seats)) + occ x (cohortFor (rightOf t) (r .seats))
-    unfolding cohortFor tally
-    cohort-all x = omega (arith, occ-keysWhere (λ q. eqb (q .child) (leftOf t)) x 0 (r .seats) (snd .rows), occ-keysWhere (λ q. eqb (q .child) (rightOf t)) x 0 (r .seats) (snd .rows), side (at x (r .seats)) refl)
-      where
-        side : (o : Option Seat) → at x (r .seats) ≡ o → tally unit o ≤ tally (λ q. bitOf (eqb (q .child) (leftOf t))) o + tally (λ q. bitOf (eqb (q .child) (rightOf t))) o
-        side none e = omega arith
-        side (some q) e = snd .kids x q e
+    go : (o : Option Reshape) → at t (c .reshapes) ≡ o → Ends (Shrunk b) (elim o [ none ↦ finished 0 draws c | some r ↦ cutMergeOf t r draws c ])
+    go none e = h
+    go (some r) e = cut r e
 
-    halves-all : (x : Id) → Alike (told (seatsAt t) b x) 0 → told (seatsAt t) b x ≤ occ x (r .left) + occ x (r .right)
-    unfolding tally
-    halves-all x (same p v) = omega arith
-    halves-all x (apart p v) = omega (arith, seats-most t (at x (b .machines)), rw er at (h .halved t x (rw er (omega arith)) (omega arith)))
-
-    abbrev lefts : List Id
-    lefts = r .left ++ cohortFor (leftOf t) (r .seats)
-
-    abbrev rights : List Id
-    rights = r .right ++ cohortFor (rightOf t) (r .seats)
-
-    cut-split-keeps : (draws : List ℕ) → Seats (settleChild t (rightOf t) (r .right) (r .seats) (settleChild t (leftOf t) (r .left) (r .seats) (recast split t (heightOf t b) b)))
-    unfolding settleChild occ
-    cut-split-keeps draws =
-        let first = settle-all (leftOf t) (omega (arith, hit-same (leftOf t))) lefts (rights ++ []) _ (recast-cutting split t (heightOf t b) b r er ks (snd .pos) h (lefts ++ (rights ++ [])) due) in
-        cut-done (t ∷ []) (childrenOf t) b _ (settle-all (rightOf t) (omega (arith, hit-same (rightOf t))) rights [] _ first)
-      where
-        due : (x : Id) → told (strayAt (t ∷ [])) b x ≤ occ x (lefts ++ (rights ++ []))
-        due x = simp (occ-append, append-nil) (omega (arith, stray-cons t [] (at x (b .machines)), stray-nil (at x (b .machines)), here-sum t (at x (b .machines)), has-seat x, cohort-all x, halves-all x (alike (told (seatsAt t) b x) 0)))
+pub cutMerges-kept : (b : Board) → Formed b → Seats b → Seats (cutMerges b .board)
+unfolding cutMerges
+cutMerges-kept b wf h = batch-ends (Shrunk b) cutMerge (due merge b) [] b (λ w t ds c o. merge-turn b t ds c (was-due merge b wf t o)) (record { seats = h; less = λ t r e. e }) .seats

@@ -3,16 +3,19 @@ use mathlib.Core.Path.{_≡_, refl, ap, sym, _∙_}
 use mathlib.Core.Logic.{_≢_}
 use mathlib.Core.List.{List, [], _∷_}
 use mathlib.Core.Option.{Option, none, some}
+use mathlib.Core.Bool.{Bool}
 use Prim.Native.Nat.{ℕ, _+_, _*_, _≤_, zero-le}
 use native.Mathlib.Omega.{arith}
 use Rattle.types.specs.Numbers.{Shard, Id}
 use Rattle.types.specs.Places.{pooled}
+use Rattle.types.specs.declared.ShardId.{ShardId}
+use Rattle.types.specs.declared.Epoch.{Epoch}
 use Rattle.types.specs.declared.Place.{Place}
 use Rattle.types.specs.declared.Place.the-variants.{Pooled, Seated, Observing, Short, Other}
 use Rattle.rules.specs.Table.{at}
 use Rattle.rules.specs.Board.{Board, onMachines, onCommittees}
 use Rattle.rules.specs.Moves.{place, join, putOn}
-use Rattle.rules.proofs.Counts.{Alike, same, apart, alike, hit, hit-same, hit-apart, occ}
+use Rattle.rules.proofs.Counts.{Alike, same, apart, alike, hit, hit-same, hit-apart, hit-sym, occ}
 use Rattle.rules.proofs.Tables.{tally, known-put}
 use Rattle.rules.proofs.SeatsLaws.{tally-le}
 use Rattle.rules.proofs.Seats.{seatsAt, watchesAt, hereAt, told, inC, inSplit, schedN, inHalves, party, commN, boundN, kindAt, Frame, Frame-same, Seats, Nowhere, nowhere-pooled, moved}
@@ -61,6 +64,25 @@ pub stray-of : (old : List Shard) (o : Option Place) → 1 ≤ tally (strayAt ol
 unfolding tally
 stray-of old none h = absurd (omega arith)
 stray-of old (some p) h = (p, refl, h)
+
+-- shard by shard
+pub stray-cons : (s : Shard) (l : List Shard) (o : Option Place) → tally (strayAt (s ∷ l)) o ≡ tally (hereAt s) o + tally (strayAt l) o
+unfolding tally strayAt seatsAt watchesAt occ
+stray-cons s l none = refl
+stray-cons s l (some Pooled) = refl
+stray-cons s l (some (Seated t r w)) = omega (arith, hit-sym s (t .0))
+stray-cons s l (some (Observing t w)) = omega (arith, hit-sym s (t .0))
+stray-cons s l (some Short) = refl
+stray-cons s l (some (Other m)) = refl
+
+pub stray-nil : (o : Option Place) → tally (strayAt []) o ≡ 0
+unfolding tally strayAt occ
+stray-nil none = refl
+stray-nil (some Pooled) = refl
+stray-nil (some (Seated t r w)) = refl
+stray-nil (some (Observing t w)) = refl
+stray-nil (some Short) = refl
+stray-nil (some (Other m)) = refl
 
 -- ---- the check on the way: but for the old shards, which are empty, and whose people are all of the list
 
@@ -195,3 +217,21 @@ module _ (old new : List Shard) (b₀ : Board) where
 
         apart-new : (t : Shard) → 1 ≤ occ t old → hit t c ≡ 0
         apart-new t z = hit-apart t c (λ q. omega (arith, h .fresh c k .2, rw q at z))
+
+-- ---- one of the list
+
+module _ (old new : List Shard) (b₀ : Board) (x : Id) (rest : List Id) (d : Board) (g : Cutting old new b₀ (x ∷ rest) d) where
+  -- not astray: passed over
+  pub pass : (p : Place) → at x (d .machines) ≡ some p → strayAt old p ≡ 0 → Cutting old new b₀ rest d
+  unfolding tally
+  pass p e z = cut-pass old new b₀ x rest d (rw e z) g
+
+  pub pass-none : at x (d .machines) ≡ none → Cutting old new b₀ rest d
+  unfolding tally
+  pass-none e = cut-pass old new b₀ x rest d (rw e) g
+
+  -- astray: seated on a new shard
+  pub land : (c : Shard) → 1 ≤ occ c new → (move : Place → Place) (p : Place) (u : ShardId) (s : Bool) (w : Epoch) → at x (d .machines) ≡ some p → 1 ≤ strayAt old p → move p ≡ Seated u s w → u .0 ≡ c
+      → Cutting old new b₀ rest (putOn c move x d)
+  unfolding strayAt seatsAt watchesAt
+  land c k move p u s w e lost m v = cut-land old new b₀ x move p rest d e lost g (rw (m, v) (g .fresh c k .2)) c k (λ i. rw (m, v)) (λ i. rw m)
