@@ -17,3 +17,5 @@ pub mod SeatsRecast
 pub mod SeatsSplit
 pub mod SeatsMerge
 pub mod SeatsCut
+pub mod SeatsTest
+pub mod SeatsKept
