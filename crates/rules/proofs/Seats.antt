@@ -1,12 +1,10 @@
 -- The seat check as counts: every clause is an equation or an inequality between numbers, so that a move is a change of numbers.
-use mathlib.Core.Path.{_≡_, refl, ap, sym, _∙_}
-use mathlib.Core.Logic.{_≢_}
+use mathlib.Core.Path.{_≡_, refl, sym, _∙_}
 use mathlib.Core.List.{List, [], _∷_}
-use mathlib.Core.Option.{Option, none, some, Option·map}
-use mathlib.Core.Bool.{Bool, true, false}
+use mathlib.Core.Option.{Option, none, some}
+use mathlib.Core.Bool.{Bool}
 use Prim.Native.Nat.{ℕ, _+_, _*_, _≤_}
 use native.Mathlib.Omega.{arith}
-use lib.Dec.{eqb}
 use Rattle.types.specs.Numbers.{Shard, Id}
 use Rattle.types.specs.Places.{isPooled, isSeatedOn, observes}
 use Rattle.types.specs.declared.Place.{Place}
@@ -17,7 +15,7 @@ use Rattle.rules.specs.Lists.{bitOf}
 use Rattle.rules.specs.Table.{Table, at, update}
 use Rattle.rules.specs.Board.{Rotation, Kind, split, merge, Reshape, Board}
 use Rattle.rules.specs.Moves.{familyOf, oldShards, newShards}
-use Rattle.rules.proofs.Counts.{Alike, same, apart, alike, hit, hit-same, hit-apart, hit-sym, hit-most, occ}
+use Rattle.rules.proofs.Counts.{Alike, same, apart, alike, hit, hit-apart, hit-sym, hit-most, occ}
 use Rattle.rules.proofs.Tables.{tally, tally-update}
 
 -- ---- what a place says of a shard, as numbers

@@ -1,30 +1,28 @@
 -- The cuts keep the seat check, shard after shard.
 use mathlib.Core.Path.{_≡_, refl, ap, sym, _∙_}
-use mathlib.Core.List.{List, [], _∷_, _++_}
+use mathlib.Core.List.{List, []}
 use mathlib.Core.Option.{Option, none, some, Option·none-ne-some, Option·some-injective}
 use mathlib.Core.Bool.{Bool, true, false, cond, false≢true}
 use Prim.Native.Nat.{ℕ, _≤_}
-use native.Mathlib.Omega.{arith}
 use lib.Dec.{eqb, leb}
 use Rattle.types.specs.Numbers.{Shard, Id, Epoch}
 use Rattle.types.specs.Shards.{leftOf, rightOf}
 use Rattle.types.specs.Places.{isSeatedOn, isObserving, movedTo, keptOn, seatedFromWatch}
 use Rattle.types.specs.declared.Place.{Place}
-use Rattle.rules.specs.Lists.{_and_, _or_}
+use Rattle.rules.specs.Lists.{_or_}
 use Rattle.rules.specs.Table.{Table, at, remove}
 use Rattle.rules.specs.Board.{Kind, split, merge, Seat, Reshape, Board, epochOf}
-use Rattle.rules.specs.Moves.{place, join, putOn, forAll, isKind, heightOf}
-use Rattle.rules.specs.Turns.{finished, checked, batch}
-use Rattle.rules.specs.Cut.{isTerminal, due, recast, settle, settleChild, cutSplitOf, cutSplit, cutSplits, rejoin, larger, cutMergeOf, cutMerge, cutMerges}
+use Rattle.rules.specs.Moves.{place, join, putOn, heightOf}
+use Rattle.rules.specs.Turns.{finished}
+use Rattle.rules.specs.Cut.{isTerminal, due, settle, settleChild, cutSplitOf, cutSplit, cutSplits, rejoin, larger, cutMergeOf, cutMerge, cutMerges}
 use Rattle.rules.proofs.Counts.{occ}
 use Rattle.rules.proofs.Tables.{at-remove, tally}
 use Rattle.rules.proofs.Tests.{and-parts}
 use Rattle.rules.proofs.SeatsLaws.{listed}
 use Rattle.rules.proofs.SeatsFormed.{Sound, Formed}
-use Rattle.rules.proofs.Seats.{unit, ofSplit, schedAt, Seats}
-use Rattle.rules.proofs.SeatsMoves.{kind-is}
+use Rattle.rules.proofs.Seats.{unit, ofSplit, Seats}
+use Rattle.rules.proofs.SeatsMoves.{forAll-keeps, kind-is}
 use Rattle.rules.proofs.SeatsTurns.{Ends, checked-ends, batch-ends}
-use Rattle.rules.proofs.SeatsReshapes.{forAll-keeps}
 use Rattle.rules.proofs.SeatsRecast.{recast-reshapes}
 use Rattle.rules.proofs.SeatsSplit.{cut-split-keeps}
 use Rattle.rules.proofs.SeatsMerge.{cut-merge-keeps}

@@ -1,24 +1,22 @@
 -- On the way through a cut the seat check fails: what holds instead, and how one after another lands on the new shards.
-use mathlib.Core.Path.{_≡_, refl, ap, sym, _∙_}
-use mathlib.Core.Logic.{_≢_}
+use mathlib.Core.Path.{_≡_, refl, sym, _∙_}
 use mathlib.Core.List.{List, [], _∷_}
 use mathlib.Core.Option.{Option, none, some}
 use mathlib.Core.Bool.{Bool}
 use Prim.Native.Nat.{ℕ, _+_, _*_, _≤_, zero-le}
 use native.Mathlib.Omega.{arith}
 use Rattle.types.specs.Numbers.{Shard, Id}
-use Rattle.types.specs.Places.{pooled}
 use Rattle.types.specs.declared.ShardId.{ShardId}
 use Rattle.types.specs.declared.Epoch.{Epoch}
 use Rattle.types.specs.declared.Place.{Place}
 use Rattle.types.specs.declared.Place.the-variants.{Pooled, Seated, Observing, Short, Other}
 use Rattle.rules.specs.Table.{at}
-use Rattle.rules.specs.Board.{Board, onMachines, onCommittees}
+use Rattle.rules.specs.Board.{Board}
 use Rattle.rules.specs.Moves.{place, join, putOn}
 use Rattle.rules.proofs.Counts.{Alike, same, apart, alike, hit, hit-same, hit-apart, hit-sym, occ}
 use Rattle.rules.proofs.Tables.{tally, known-put}
 use Rattle.rules.proofs.SeatsLaws.{tally-le}
-use Rattle.rules.proofs.Seats.{seatsAt, watchesAt, hereAt, told, inC, inSplit, schedN, inHalves, party, commN, boundN, kindAt, Frame, Frame-same, Seats, Nowhere, nowhere-pooled, moved}
+use Rattle.rules.proofs.Seats.{seatsAt, watchesAt, hereAt, told, inC, inSplit, schedN, inHalves, party, commN, boundN, kindAt, Frame, Frame-same, Seats, Nowhere, moved}
 use Rattle.rules.proofs.SeatsMoves.{join-law}
 
 -- ---- who is still on a shard that is gone

@@ -1,18 +1,18 @@
 -- What the seat check takes from a well-formed board: rising keys, distinct ids, targets and seats in order.
-use mathlib.Core.Path.{_≡_, refl, sym, _∙_}
+use mathlib.Core.Path.{_≡_}
 use mathlib.Core.Logic.{_⊎_, inl, inr}
-use mathlib.Core.List.{List, [], _∷_}
-use mathlib.Core.Option.{Option, none, some}
-use mathlib.Core.Bool.{Bool, true, false, not}
+use mathlib.Core.List.{List}
+use mathlib.Core.Option.{some}
+use mathlib.Core.Bool.{true}
 use Prim.Native.Nat.{ℕ, _+_, _≤_}
 use native.Mathlib.Omega.{arith}
-use lib.Dec.{eqb, leb}
+use lib.Dec.{eqb}
 use Rattle.types.specs.Numbers.{Shard, Id}
 use Rattle.types.specs.Shards.{leftOf, rightOf}
-use Rattle.rules.specs.Lists.{_and_, _or_, bitOf}
-use Rattle.rules.specs.Table.{Entry, entry, Table, at}
-use Rattle.rules.specs.Board.{Seat, Reshape, Board, mostMembers, mostHalf, mostSeats}
-use Rattle.rules.specs.WellFormed.{rising, keyBefore, goodList, goodIds, goodMachine, goodCommittee, goodSeat, goodReshape, wellFormed}
+use Rattle.rules.specs.Lists.{bitOf}
+use Rattle.rules.specs.Table.{entry, at}
+use Rattle.rules.specs.Board.{Seat, Reshape, Board}
+use Rattle.rules.specs.WellFormed.{goodList, goodIds, goodCommittee, goodSeat, goodReshape, wellFormed}
 use Rattle.rules.proofs.Counts.{occ}
 use Rattle.rules.proofs.Tables.{From}
 use Rattle.rules.proofs.Tests.{and-parts, or-cases, all-parts, le-of, every-at, rising-table}

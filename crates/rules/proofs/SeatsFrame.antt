@@ -1,23 +1,21 @@
 -- Families of reshapes, and the committees, gaps and boundaries that each asks for: as tests and as counts, when a reshape is admitted.
 use mathlib.Core.Path.{_≡_, refl, ap, sym, _∙_}
 use mathlib.Core.Logic.{_≢_}
-use mathlib.Core.List.{List, [], _∷_}
+use mathlib.Core.List.{List, []}
 use mathlib.Core.Option.{Option, none, some, Option·some-injective, Option·none-ne-some}
-use mathlib.Core.Bool.{Bool, true, false, cond, not}
-use Prim.Native.Nat.{ℕ, _+_, _*_, _≤_}
+use mathlib.Core.Bool.{true, false, not}
+use Prim.Native.Nat.{ℕ, _≤_}
 use native.Mathlib.Omega.{arith}
 use lib.Dec.{eqb}
 use Rattle.types.specs.Numbers.{Shard, Id}
 use Rattle.types.specs.Shards.{leftOf, rightOf}
-use Rattle.rules.specs.Lists.{_and_, bitOf, every, any, has}
-use Rattle.rules.specs.Table.{Table, at, stands, put, remove, keysWhere, keysOf}
+use Rattle.rules.specs.Lists.{_and_, has}
+use Rattle.rules.specs.Table.{Table, at, stands, put, keysOf}
 use Rattle.rules.specs.Board.{Kind, split, merge, Seat, Reshape, Board, onReshapes}
-use Rattle.rules.specs.Draws.{Drawn, drew}
-use Rattle.rules.specs.Moves.{childrenOf, familyOf, overlaps, oldShards, newShards, committeesFit, boundsStand}
-use Rattle.rules.specs.Turns.{finished, checked, drawn, alone}
+use Rattle.rules.specs.Moves.{familyOf, overlaps, oldShards, newShards, committeesFit, boundsStand}
 use Rattle.rules.specs.Reshapes.{familyFree, admissionFaults, newReshape, admit, admitSplit, drawKeepers, admitMerge}
-use Rattle.rules.proofs.Counts.{Alike, same, apart, alike, eqb-same, hit, hit-same, hit-apart, occ}
-use Rattle.rules.proofs.Tables.{From, at-put, at-remove, tally, tally-put, occ-keysWhere}
+use Rattle.rules.proofs.Counts.{Alike, same, apart, alike, eqb-same, hit-same, hit-apart, occ}
+use Rattle.rules.proofs.Tables.{From, at-put, tally, tally-put, occ-keysWhere}
 use Rattle.rules.proofs.Tests.{and-parts, and-joins, every-has, has-every, of-not, not-of}
 use Rattle.rules.proofs.SeatsLaws.{bit-yes, bit-no, yes-bit, no-bit, of-no, stands-bit, out-of, of-out, none-in, in-none}
 use Rattle.rules.proofs.SeatsFormed.{Formed}

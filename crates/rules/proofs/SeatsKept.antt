@@ -1,8 +1,7 @@
 -- Demand 3, its first sentence: a board that passes the seat check still passes after any series of calls.
-use mathlib.Core.Path.{_≡_, refl}
+use mathlib.Core.Path.{_≡_}
 use mathlib.Core.List.{List, [], _∷_}
-use mathlib.Core.Bool.{Bool, true}
-use Rattle.rules.specs.Lists.{allOf}
+use mathlib.Core.Bool.{true}
 use Rattle.rules.specs.Board.{Board}
 use Rattle.rules.specs.WellFormed.{wellFormed}
 use Rattle.rules.specs.SeatCheck.{seatCheck}

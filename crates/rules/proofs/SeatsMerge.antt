@@ -1,10 +1,9 @@
 -- A merge's cut keeps the seat check: the children's members are pooled, its keepers land on the parent.
-use mathlib.Core.Path.{_≡_, refl, ap, sym, _∙_}
-use mathlib.Core.Logic.{_≢_}
+use mathlib.Core.Path.{_≡_, refl, sym, _∙_}
 use mathlib.Core.List.{List, [], _∷_, _++_, append-nil}
 use mathlib.Core.Option.{Option, none, some}
 use mathlib.Core.Bool.{Bool, true, false, cond, not}
-use Prim.Native.Nat.{ℕ, _+_, _*_, _≤_}
+use Prim.Native.Nat.{_+_, _≤_}
 use native.Mathlib.Omega.{arith}
 use lib.Dec.{eqb}
 use Rattle.types.specs.Numbers.{Shard, Id, Height}
@@ -14,8 +13,8 @@ use Rattle.types.specs.declared.ShardId.{ShardId}
 use Rattle.types.specs.declared.Epoch.{Epoch}
 use Rattle.types.specs.declared.Place.{Place}
 use Rattle.types.specs.declared.Place.the-variants.{Pooled, Seated, Observing, Short, Other}
-use Rattle.rules.specs.Lists.{_or_, bitOf, keep}
-use Rattle.rules.specs.Table.{Table, at, stands, keysOf}
+use Rattle.rules.specs.Lists.{_or_}
+use Rattle.rules.specs.Table.{at, stands, keysOf}
 use Rattle.rules.specs.Board.{merge, Seat, Reshape, Board}
 use Rattle.rules.specs.Moves.{membersOf, place, putOn, forAll, childrenOf}
 use Rattle.rules.specs.Cut.{recast, others, rejoin}
@@ -23,7 +22,7 @@ use Rattle.rules.proofs.Counts.{Alike, same, apart, alike, hit, hit-sam
 use Rattle.rules.proofs.Tables.{tally, known-most, occ-keysWhere}
 use Rattle.rules.proofs.SeatsLaws.{bit-yes, stands-bit, tally-le}
 use Rattle.rules.proofs.SeatsFormed.{Sound}
-use Rattle.rules.proofs.Seats.{watchesAt, hereAt, unit, told, inC, sitting, kindAt, Seats, nowhere-pooled, moved}
+use Rattle.rules.proofs.Seats.{watchesAt, unit, told, sitting, Seats, nowhere-pooled, moved}
 use Rattle.rules.proofs.SeatsMoves.{occ-members}
 use Rattle.rules.proofs.SeatsFrame.{own-family, old-family, old-new}
 use Rattle.rules.proofs.SeatsCutting.{strayAt, stray-cons, stray-nil, stray-of, Cutting, cut-done, cut-clear, pass, pass-none, land}

@@ -1,6 +1,5 @@
 -- Each move keeps the seat check.
-use mathlib.Core.Path.{_≡_, refl, ap, sym, _∙_}
-use mathlib.Core.Logic.{_≢_}
+use mathlib.Core.Path.{_≡_, refl, ap, _∙_}
 use mathlib.Core.List.{List, [], _∷_, _++_}
 use mathlib.Core.Option.{Option, none, some, Option·map, Option·some-injective}
 use mathlib.Core.Bool.{Bool, true, false, cond, false≢true}
@@ -10,14 +9,27 @@ use lib.Dec.{eqb}
 use Rattle.types.specs.Numbers.{Shard, Id, Epoch}
 use Rattle.types.specs.Places.{shardId, epochAt, drawnTo, setToWatch}
 use Rattle.types.specs.declared.Place.{Place}
-use Rattle.types.specs.declared.Place.the-variants.{Pooled, Seated, Observing, Short, Other}
+use Rattle.types.specs.declared.Place.the-variants.{Pooled, Seated, Observing}
 use Rattle.rules.specs.Lists.{bitOf, strike}
-use Rattle.rules.specs.Table.{Table, at, put, remove, each, update}
-use Rattle.rules.specs.Board.{Boundary, Rotation, Kind, split, merge, Seat, Reshape, Board, onMachines, onCommittees, onBounds, onRotations, onReshapes, epochOf}
-use Rattle.rules.specs.Moves.{membersOf, place, join, quit, putOn, takeOff, withSeats, isKind, newSeat, watch}
-use Rattle.rules.proofs.Counts.{Alike, same, apart, alike, hit, hit-same, hit-apart, occ, occ-nil, occ-append, occ-single, occ-strike}
-use Rattle.rules.proofs.Tables.{tally, at-each, tally-update, tally-put, tally-remove, tally-same, tally-each, known-put}
-use Rattle.rules.proofs.Seats.{seatsAt, watchesAt, hereAt, pooledAt, unit, told, inC, ofSplit, sitting, inSplit, schedAt, schedN, halfAt, inHalves, party, commN, boundN, kindOf, kindAt, Frame, Frame-same, Seats, seats-most, Nowhere, moved}
+use Rattle.rules.specs.Table.{Table, at, put, update}
+use Rattle.rules.specs.Board.{Rotation, Kind, split, merge, Seat, Reshape, Board, onRotations, onReshapes, epochOf}
+use Rattle.rules.specs.Moves.{membersOf, place, join, quit, putOn, takeOff, forAll, withSeats, isKind, newSeat, watch}
+use Rattle.rules.proofs.Counts.{Alike, same, apart, alike, hit, hit-same, hit-apart, occ, occ-append, occ-single, occ-strike}
+use Rattle.rules.proofs.Tables.{tally, at-each, tally-update, tally-put, tally-same, known-put}
+use Rattle.rules.proofs.Seats.{seatsAt, watchesAt, hereAt, unit, told, inC, ofSplit, sitting, inSplit, schedAt, schedN, halfAt, inHalves, party, commN, boundN, kindOf, kindAt, Frame, Frame-same, Seats, Nowhere, moved}
+
+-- ---- one move after another
+
+pub forAll-keeps : {A : Type 0} (P : Board → Type 0) (move : A → Board → Board) → ((x : A) (b : Board) → P b → P (move x b)) → (l : List A) (b : Board) → P b → P (forAll move l b)
+unfolding forAll
+forAll-keeps P move k [] b p = p
+forAll-keeps P move k (x ∷ l) b p = forAll-keeps P move k l (move x b) (k x b p)
+
+-- a change that each move leaves alone may as well come first
+pub forAll-swap : {A : Type 0} (g : Board → Board) (move : A → Board → Board) → ((x : A) (b : Board) → g (move x b) ≡ move x (g b)) → (l : List A) (b : Board) → g (forAll move l b) ≡ forAll move l (g b)
+unfolding forAll
+forAll-swap g move k [] b = refl
+forAll-swap g move k (x ∷ l) b = forAll-swap g move k l (move x b) ∙ ap (forAll move l) (k x b)
 
 -- ---- laws of the committees
 

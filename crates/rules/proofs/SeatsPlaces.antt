@@ -1,34 +1,33 @@
 -- The steps on places and committees keep the seat check: tick, leave, rotate, resolve, time out.
 use mathlib.Core.Path.{_≡_, refl, ap, sym, _∙_}
-use mathlib.Core.Logic.{_≢_}
 use mathlib.Core.List.{List, [], _∷_}
 use mathlib.Core.Option.{Option, none, some}
 use mathlib.Core.Bool.{Bool, true, false, cond, not, true≢false}
 use Prim.Native.Nat.{ℕ, _+_, _*_, _≤_}
 use native.Mathlib.Omega.{arith}
-use lib.Dec.{eqb, leb, ltb}
+use lib.Dec.{leb, ltb}
 use lib.ListN.{length}
 use Rattle.types.specs.Numbers.{Shard, Id}
 use Rattle.types.specs.Shards.{parentOf}
-use Rattle.types.specs.Places.{shardId, epochAt, isSeatedOn, isReady, isOverdue, pooled, short, madeReady, drawnTo}
+use Rattle.types.specs.Places.{isSeatedOn, short, madeReady, drawnTo}
 use Rattle.types.specs.declared.ShardId.{ShardId}
 use Rattle.types.specs.declared.Epoch.{Epoch}
 use Rattle.types.specs.declared.Place.{Place}
 use Rattle.types.specs.declared.Place.the-variants.{Pooled, Seated, Observing, Short, Other}
 use Rattle.types.specs.declared.Answer.the-variants.{NoRecord}
-use Rattle.rules.specs.Lists.{_and_, bitOf, any, keep, strike}
-use Rattle.rules.specs.Table.{Table, at, stands, holdsAt, remove, each, update, isSome}
-use Rattle.rules.specs.Board.{Rotation, Kind, split, merge, Seat, Reshape, Board, mostRotations, onSettings, onMachines, onCommittees, onRotations, onReshapes, epochOf}
-use Rattle.rules.specs.Moves.{says, place, join, quit, putOn, takeOff, forAll, pooledFrom, hasParty, isParty, isOn, openRotation, dropFirst, withSeats, isKind, reshapeAt, giveUpSeat}
-use Rattle.rules.specs.Turns.{Result, Turn, finished, refused, checked, alone, poolDraw}
-use Rattle.rules.specs.Places.{nextEpoch, tick, isScheduledSplit, leaveSeat, leaveFromSeat, leaveFrom, leaveTurn, leave, inFlight, mayRotate, victimFit, newRotation, rotateTurn, rotate, isResolved, hasSeatsFree, isRotation, retire, close, resolved, resolve, isDue, timeOut}
+use Rattle.rules.specs.Lists.{_and_, bitOf, any, strike}
+use Rattle.rules.specs.Table.{at, stands, holdsAt, remove, each, isSome}
+use Rattle.rules.specs.Board.{Rotation, Kind, split, merge, Reshape, Board, mostRotations, onMachines, onRotations, epochOf}
+use Rattle.rules.specs.Moves.{place, join, quit, putOn, takeOff, forAll, pooledFrom, hasParty, isParty, openRotation, dropFirst, withSeats, isKind, reshapeAt, giveUpSeat}
+use Rattle.rules.specs.Turns.{finished, refused, poolDraw}
+use Rattle.rules.specs.Places.{tick, isScheduledSplit, leaveSeat, leaveFromSeat, leaveFrom, leaveTurn, leave, inFlight, mayRotate, victimFit, newRotation, rotateTurn, rotate, isResolved, hasSeatsFree, isRotation, retire, close, resolved, resolve, isDue, timeOut}
 use Rattle.rules.proofs.Counts.{Alike, same, apart, alike, eqb-same, hit, hit-same, hit-apart, occ, occ-single}
 use Rattle.rules.proofs.Tables.{From, From-update, tally, tally-update, tally-remove, tally-same, tally-each, known-most}
 use Rattle.rules.proofs.Tests.{and-parts, of-not, eq-of}
 use Rattle.rules.proofs.SeatsLaws.{bit-yes, bit-no, of-no, holds-bit, some-bit, stands-bit}
 use Rattle.rules.proofs.SeatsFormed.{Formed}
-use Rattle.rules.proofs.Seats.{seatsAt, watchesAt, hereAt, unit, told, inC, ofSplit, sitting, inSplit, schedAt, schedN, halfAt, total, partyOf, party, commN, boundN, kindAt, Frame, Frame-same, Seats, seats-most, seat-of, watch-of, here-sum, seats-bit, Nowhere, nowhere-short, nowhere-pooled, moved}
-use Rattle.rules.proofs.SeatsMoves.{quit-law, stands-of, Steady, steady-sched, splitN, split-bit, seat-keeps, unseat-keeps, turns-keep, fewer-keep, unseen-keeps, Leaving, left-all, leaving, unwatch-keeps}
+use Rattle.rules.proofs.Seats.{seatsAt, watchesAt, hereAt, unit, told, ofSplit, sitting, inSplit, schedAt, schedN, halfAt, total, partyOf, party, commN, Seats, seats-most, seat-of, here-sum, seats-bit, Nowhere, nowhere-short, nowhere-pooled, moved}
+use Rattle.rules.proofs.SeatsMoves.{stands-of, Steady, steady-sched, splitN, split-bit, seat-keeps, unseat-keeps, turns-keep, fewer-keep, unseen-keeps, left-all, leaving, unwatch-keeps}
 use Rattle.rules.proofs.SeatsRotations.{total-open, total-drop, drop-least, drop-most, none-total, some-total, total-keep, party-yes, party-no}
 use Rattle.rules.proofs.SeatsTurns.{Ends, checked-ends, alone-ends, pool-ends}
 

@@ -3,23 +3,23 @@ use mathlib.Core.Path.{_≡_, refl, ap, sym, _∙_}
 use mathlib.Core.Logic.{_≢_}
 use mathlib.Core.List.{List, [], _∷_}
 use mathlib.Core.Option.{Option, none, some, Option·none-ne-some}
-use mathlib.Core.Bool.{Bool, true, false, cond}
+use mathlib.Core.Bool.{cond}
 use Prim.Native.Nat.{ℕ, _+_, _*_, _≤_}
 use native.Mathlib.Omega.{arith}
 use lib.Dec.{eqb}
 use Rattle.types.specs.Numbers.{Shard, Id, Height}
 use Rattle.types.specs.declared.Place.{Place}
 use Rattle.rules.specs.Table.{at, put, remove}
-use Rattle.rules.specs.Board.{Rotation, Kind, split, merge, Reshape, Board, onCommittees, onBounds, onRotations, onReshapes, epochOf}
-use Rattle.rules.specs.Moves.{forAll, dropRotations, familyOf, oldShards, newShards, newBoundary}
+use Rattle.rules.specs.Board.{Kind, split, merge, Reshape, Board, onReshapes, epochOf}
+use Rattle.rules.specs.Moves.{forAll, familyOf, oldShards, newShards, newBoundary}
 use Rattle.rules.specs.Cut.{endShard, beginShard, recast}
 use Rattle.rules.proofs.Counts.{Alike, same, apart, alike, eqb-same, eqb-apart, hit, hit-same, hit-apart, occ}
 use Rattle.rules.proofs.Tables.{cond-const, at-put, at-remove, tally, tally-remove, known-most, known-more}
 use Rattle.rules.proofs.SeatsLaws.{none-told}
-use Rattle.rules.proofs.Seats.{seatsAt, watchesAt, hereAt, unit, told, inC, ofSplit, sitting, inSplit, schedAt, schedN, halfAt, inHalves, total, partyOf, party, commN, boundN, kindOf, kindAt, Frame, Seats}
+use Rattle.rules.proofs.Seats.{seatsAt, watchesAt, hereAt, unit, told, inC, ofSplit, sitting, inSplit, schedAt, schedN, halfAt, inHalves, party, commN, boundN, kindOf, kindAt, Frame, Seats}
+use Rattle.rules.proofs.SeatsMoves.{forAll-keeps}
 use Rattle.rules.proofs.SeatsRotations.{party-gone, party-stays, party-fewer}
-use Rattle.rules.proofs.SeatsReshapes.{forAll-keeps}
-use Rattle.rules.proofs.SeatsFrame.{own-family, old-family, new-family, old-new, kind-known}
+use Rattle.rules.proofs.SeatsFrame.{own-family, old-family, new-family, old-new}
 use Rattle.rules.proofs.SeatsCutting.{strayAt, Cutting}
 
 -- what is seen of one shard, when each shard of a list is changed: the shard itself sees it, and no other

@@ -2,33 +2,31 @@
 use mathlib.Core.Path.{_≡_, refl, ap, sym, _∙_}
 use mathlib.Core.Logic.{_≢_}
 use mathlib.Core.List.{List, [], _∷_, _++_, append-nil}
-use mathlib.Core.Option.{Option, none, some, Option·some-injective, Option·none-ne-some}
-use mathlib.Core.Bool.{Bool, true, false, cond, not, true≢false}
-use Prim.Native.Nat.{ℕ, _+_, _*_, _/_, _≤_}
+use mathlib.Core.Option.{Option, none, some}
+use mathlib.Core.Bool.{Bool, true, false, cond, not}
+use Prim.Native.Nat.{ℕ, _+_, _*_, _≤_}
 use native.Mathlib.Omega.{arith}
-use lib.Dec.{eqb, leb}
 use lib.ListN.{length, take, drop, take-append-drop}
 use Rattle.types.specs.Numbers.{Shard, Id, Epoch}
 use Rattle.types.specs.Shards.{leftOf, rightOf}
-use Rattle.types.specs.Places.{shardId, epochAt, isPooled, isSeatedOn, observes, pooled, setToWatch}
-use Rattle.types.specs.declared.Place.{Place}
-use Rattle.types.specs.declared.Place.the-variants.{Pooled, Seated, Observing, Short, Other}
+use Rattle.types.specs.Places.{isPooled, isSeatedOn, observes, setToWatch}
+use Rattle.types.specs.declared.Place.the-variants.{Pooled, Seated, Observing}
 use Rattle.types.specs.declared.Answer.the-variants.{NoBoundary}
-use Rattle.rules.specs.Lists.{_and_, bitOf, isEmpty, keep, sort}
-use Rattle.rules.specs.Table.{Table, at, stands, holdsAt, put, update, keysWhere, keysOf, isSome}
-use Rattle.rules.specs.Board.{Boundary, Rotation, Kind, split, merge, Seat, Reshape, Board, onMachines, onCommittees, onBounds, onRotations, onReshapes, epochOf, sizeOf}
-use Rattle.rules.specs.Draws.{Drawn, drew, shuffle}
-use Rattle.rules.specs.Moves.{poolOf, says, membersOf, place, join, quit, putOn, takeOff, forAll, pooledFrom, dropRotations, entrantsOn, abortRotations, withSeats, withQuiet, withDrainBy, withTerminal, isKind, reshapeAt, newSeat, watch, oldShards, boundsStand, markedBoundary}
-use Rattle.rules.specs.Turns.{Result, Turn, finished, refused, Fault, _gives_, checked, drawn, alone, batch}
+use Rattle.rules.specs.Lists.{_and_, bitOf, isEmpty}
+use Rattle.rules.specs.Table.{Table, at, holdsAt, put, update, keysWhere, keysOf, isSome}
+use Rattle.rules.specs.Board.{Boundary, Kind, split, merge, Seat, Reshape, Board, onBounds, onRotations, onReshapes, epochOf, sizeOf}
+use Rattle.rules.specs.Draws.{drew, shuffle}
+use Rattle.rules.specs.Moves.{poolOf, says, membersOf, place, join, quit, putOn, takeOff, forAll, pooledFrom, dropRotations, entrantsOn, abortRotations, withSeats, withDrainBy, withTerminal, isKind, reshapeAt, newSeat, watch, oldShards, boundsStand}
+use Rattle.rules.specs.Turns.{finished, _gives_, checked}
 use Rattle.rules.specs.Reshapes.{halfUp, readySeat, markSeatReady, quieted, markQuiet, awaitsCohort, watchAll, cohortTurn, drawCohort, cohortOf, released, lapse}
 use Rattle.rules.specs.Schedule.{unscheduled, isQuiet, scheduled, drainOrSchedule, seatedThere, splitGate, passGate, halve, scheduleSplit, scheduleSplits, mergeGate, scheduleMerge, scheduleMerges}
 use Rattle.rules.proofs.Counts.{Alike, same, apart, alike, eqb-same, hit, hit-same, hit-apart, occ, occ-append, occ-take, occ-keep, shuffle-keeps}
 use Rattle.rules.proofs.Tables.{From, tally, tally-update, tally-same, known-most, occ-keysWhere}
-use Rattle.rules.proofs.Tests.{and-parts, of-not}
-use Rattle.rules.proofs.SeatsLaws.{bit-yes, bit-no, yes-bit, bit-most, and-most, of-no, holds-bit, listed, tally-le, occ-sort}
-use Rattle.rules.proofs.SeatsFormed.{Sound, Formed}
-use Rattle.rules.proofs.Seats.{seatsAt, watchesAt, hereAt, pooledAt, unit, told, inC, ofSplit, sitting, inSplit, schedAt, schedN, halfAt, inHalves, total, partyOf, party, commN, boundN, kindOf, kindAt, Frame, Frame-same, Seats, seats-most, seat-of, watch-of, pool-of, here-sum, here-most, seats-bit, Nowhere, nowhere-pooled, moved}
-use Rattle.rules.proofs.SeatsMoves.{occ-members, no-seats, kind-of, kind-is, Steady, steady-seats, kind-update, splitN, split-bit, fewer-keep, unseen-keeps, Leaving, left-all, leaving, unwatch-keeps, watch-keeps}
+use Rattle.rules.proofs.Tests.{and-parts}
+use Rattle.rules.proofs.SeatsLaws.{bit-yes, bit-no, bit-most, and-most, of-no, holds-bit, listed, tally-le, occ-sort}
+use Rattle.rules.proofs.SeatsFormed.{Formed}
+use Rattle.rules.proofs.Seats.{seatsAt, watchesAt, pooledAt, unit, told, inC, ofSplit, sitting, inSplit, schedAt, halfAt, party, kindAt, Frame-same, Seats, seats-most, seat-of, watch-of, pool-of, here-sum, here-most, seats-bit, nowhere-pooled, moved}
+use Rattle.rules.proofs.SeatsMoves.{forAll-keeps, forAll-swap, occ-members, no-seats, kind-of, kind-is, steady-seats, kind-update, splitN, split-bit, fewer-keep, unseen-keeps, Leaving, left-all, leaving, unwatch-keeps, watch-keeps}
 use Rattle.rules.proofs.SeatsRotations.{party-gone, party-fewer, entrants-party}
 use Rattle.rules.proofs.SeatsTurns.{Ends, checked-ends, drawn-ends, alone-ends, batch-ends}
 use Rattle.rules.proofs.SeatsPlaces.{unseat-pooled}
@@ -96,19 +94,6 @@ drawCohort-kept t draws b wf h = alone-ends Seats draws b _ h (checked-ends Seat
       there = awaits-split t b (of-no _ (p .1 .1 .0));
     })))))
 
--- ---- one move after another
-
-pub forAll-keeps : {A : Type 0} (P : Board → Type 0) (move : A → Board → Board) → ((x : A) (b : Board) → P b → P (move x b)) → (l : List A) (b : Board) → P b → P (forAll move l b)
-unfolding forAll
-forAll-keeps P move k [] b p = p
-forAll-keeps P move k (x ∷ l) b p = forAll-keeps P move k l (move x b) (k x b p)
-
--- a change that each move leaves alone may as well come first
-pub forAll-swap : {A : Type 0} (g : Board → Board) (move : A → Board → Board) → ((x : A) (b : Board) → g (move x b) ≡ move x (g b)) → (l : List A) (b : Board) → g (forAll move l b) ≡ forAll move l (g b)
-unfolding forAll
-forAll-swap g move k [] b = refl
-forAll-swap g move k (x ∷ l) b = forAll-swap g move k l (move x b) ∙ ap (forAll move l) (k x b)
-
 -- ---- LAPSE
 
 lapse-all : (t : Shard) (l : List Id) (b : Board) → Leaving t l b → Leaving t [] (forAll (takeOff t (pooledFrom (observes t))) l b)
@@ -161,7 +146,7 @@ abort-all s [] b o free h = h
 abort-all s (x ∷ l) b o free h =
     let q = seat-of s (at x (b .machines)) (omega (arith, o x, hit-same x)) in
     abort-all s l (takeOff s (pooledFrom (isSeatedOn s)) x b)
-    (λ y. omega (arith, simp (q .4, eqb-same, hit-same) at (moved (seatsAt s) x y (pooledFrom (isSeatedOn s)) (Seated (q .0) (q .1) (q .2)) (b .machines) (q .3)), o y))
+    (λ y. omega (arith, simp (q .4, eqb-same, hit-same s) at (moved (seatsAt s) x y (pooledFrom (isSeatedOn s)) (Seated (q .0) (q .1) (q .2)) (b .machines) (q .3)), o y))
     free (unseat-pooled s x b (omega (arith, o x, hit-same x)) (free x) h)
 
 pub abort-keeps : (s : Shard) (b : Board) → Seats b → Seats (abortRotations s b)

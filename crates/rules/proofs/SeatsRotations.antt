@@ -1,5 +1,5 @@
 -- Laws of rotations: what opening, dropping and keeping does to a number added up over them.
-use mathlib.Core.Path.{_≡_, refl, ap, sym, _∙_}
+use mathlib.Core.Path.{_≡_, refl, sym, _∙_}
 use mathlib.Core.Logic.{_≢_}
 use mathlib.Core.List.{List, [], _∷_}
 use mathlib.Core.Bool.{Bool, true, false, cond, not, true≢false, false≢true}
@@ -11,9 +11,8 @@ use Rattle.rules.specs.Lists.{_and_, _or_, any, keep}
 use Rattle.rules.specs.Board.{Rotation}
 use Rattle.rules.specs.WellFormed.{rotationBefore}
 use Rattle.rules.specs.Moves.{hasParty, isOn, openRotation, dropFirst, dropRotations, entrantsOn}
-use Rattle.rules.specs.Places.{isRotation}
 use Rattle.rules.proofs.Counts.{Alike, same, apart, alike, eqb-same, hit, hit-same, hit-apart, occ}
-use Rattle.rules.proofs.Tests.{and-parts, eq-of, of-not}
+use Rattle.rules.proofs.Tests.{and-parts, eq-of}
 use Rattle.rules.proofs.SeatsLaws.{of-no}
 use Rattle.rules.proofs.Seats.{total, partyOf, party}
 

@@ -1,36 +1,30 @@
 -- A split's cut keeps the seat check: who is seated on the target or watches it lands on a child.
-use mathlib.Core.Path.{_≡_, refl, ap, sym, _∙_}
+use mathlib.Core.Path.{_≡_, refl, sym, _∙_}
 use mathlib.Core.Logic.{_≢_}
 use mathlib.Core.List.{List, [], _∷_, _++_, append-nil}
-use mathlib.Core.Option.{Option, none, some, Option·none-ne-some}
-use mathlib.Core.Bool.{Bool, true, false, cond, not, false≢true}
-use Prim.Native.Nat.{ℕ, _+_, _*_, _≤_, zero-le}
+use mathlib.Core.Option.{Option, none, some}
+use mathlib.Core.Bool.{Bool, cond}
+use Prim.Native.Nat.{_+_, _≤_}
 use native.Mathlib.Omega.{arith}
-use lib.Dec.{eqb, leb}
+use lib.Dec.{eqb}
 use Rattle.types.specs.Numbers.{Shard, Id}
 use Rattle.types.specs.Shards.{leftOf, rightOf}
-use Rattle.types.specs.Places.{shardId, epochAt, isSeatedOn, isObserving, pooled, movedTo, keptOn, seatedFromWatch}
+use Rattle.types.specs.Places.{shardId, epochAt, isSeatedOn, isObserving, movedTo, seatedFromWatch}
 use Rattle.types.specs.declared.ShardId.{ShardId}
 use Rattle.types.specs.declared.Epoch.{Epoch}
 use Rattle.types.specs.declared.Place.{Place}
 use Rattle.types.specs.declared.Place.the-variants.{Pooled, Seated, Observing, Short, Other}
-use Rattle.rules.specs.Lists.{_and_, _or_, bitOf, keep}
-use Rattle.rules.specs.Table.{Entry, Table, at, stands, put, remove, keysWhere, keysOf}
-use Rattle.rules.specs.Board.{Kind, split, merge, Seat, Reshape, Board, onMachines, onCommittees, epochOf}
-use Rattle.rules.specs.Moves.{membersOf, place, join, putOn, forAll, isKind, childrenOf, heightOf}
-use Rattle.rules.specs.Turns.{Turn, finished, checked, batch}
-use Rattle.rules.specs.Cut.{isTerminal, due, recast, cutFaults, settle, cohortFor, settleChild, cutSplitOf, cutSplit, cutSplits, others, rejoin, larger, cutMergeOf, cutMerge, cutMerges}
-use Rattle.rules.proofs.Counts.{Alike, same, apart, alike, eqb-same, hit, hit-same, hit-apart, hit-sym, occ, occ-append, occ-keep}
-use Rattle.rules.proofs.Tables.{From, at-remove, tally, known-most, occ-keysWhere}
-use Rattle.rules.proofs.Tests.{and-parts, or-cases, or-left, or-right, of-eq}
-use Rattle.rules.proofs.SeatsLaws.{bit-yes, listed, stands-bit, tally-le}
-use Rattle.rules.proofs.SeatsFormed.{Sound, Formed}
-use Rattle.rules.proofs.Seats.{seatsAt, watchesAt, hereAt, unit, told, inC, ofSplit, sitting, inSplit, schedAt, schedN, halfAt, inHalves, commN, kindAt, Seats, seats-most, watch-of, here-sum, here-most, nowhere-pooled}
-use Rattle.rules.proofs.SeatsMoves.{occ-members, kind-is}
-use Rattle.rules.proofs.SeatsTurns.{Ends, checked-ends, batch-ends}
-use Rattle.rules.proofs.SeatsReshapes.{forAll-keeps}
+use Rattle.rules.specs.Lists.{bitOf}
+use Rattle.rules.specs.Table.{at}
+use Rattle.rules.specs.Board.{split, Seat, Reshape, Board, epochOf}
+use Rattle.rules.specs.Moves.{putOn, forAll, childrenOf, heightOf}
+use Rattle.rules.specs.Cut.{due, recast, settle, cohortFor, settleChild}
+use Rattle.rules.proofs.Counts.{Alike, same, apart, alike, hit-same, hit-apart, occ, occ-append}
+use Rattle.rules.proofs.Tables.{tally, occ-keysWhere}
+use Rattle.rules.proofs.SeatsFormed.{Sound}
+use Rattle.rules.proofs.Seats.{seatsAt, watchesAt, unit, told, ofSplit, schedAt, Seats, seats-most, watch-of, here-sum}
 use Rattle.rules.proofs.SeatsCutting.{strayAt, stray-cons, stray-nil, Cutting, cut-done, pass, pass-none, land}
-use Rattle.rules.proofs.SeatsRecast.{recast-machines, recast-reshapes, recast-cutting}
+use Rattle.rules.proofs.SeatsRecast.{recast-cutting}
 
 module _ (t : Shard) (r : Reshape) (b : Board) (er : at t (b .reshapes) ≡ some r) (ks : r .kind ≡ split) (h : Seats b) where
   -- who watches has a seat, and who has a seat watches the target and no other shard

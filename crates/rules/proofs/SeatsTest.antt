@@ -1,30 +1,30 @@
 -- The seat check, as it is computed, says what the counts say.
 use mathlib.Core.Path.{_≡_, refl, ap, sym, _∙_}
-use mathlib.Core.Logic.{_≢_, _⊎_, inl, inr}
+use mathlib.Core.Logic.{_⊎_, inl, inr}
 use mathlib.Core.List.{List, [], _∷_}
 use mathlib.Core.Option.{Option, none, some, Option·none-ne-some, Option·some-injective}
-use mathlib.Core.Bool.{Bool, true, false, not, true≢false, false≢true}
-use Prim.Native.Nat.{ℕ, _+_, _*_, _≤_}
+use mathlib.Core.Bool.{Bool, true, false, not, true≢false}
+use Prim.Native.Nat.{ℕ, _+_, _≤_}
 use native.Mathlib.Omega.{arith}
 use lib.Dec.{eqb}
 use Rattle.types.specs.Numbers.{Shard, Id}
 use Rattle.types.specs.Places.{isSeatedOn, observes}
 use Rattle.types.specs.declared.Place.{Place}
 use Rattle.types.specs.declared.Place.the-variants.{Pooled, Seated, Observing, Short, Other}
-use Rattle.rules.specs.Lists.{_and_, _or_, allOf, bitOf, every, any, has, distinct}
-use Rattle.rules.specs.Table.{Entry, entry, Table, at, stands, holdsAt, keysOf}
+use Rattle.rules.specs.Lists.{_and_, _or_, bitOf, every, any, has, distinct}
+use Rattle.rules.specs.Table.{entry, at, stands, keysOf}
 use Rattle.rules.specs.Board.{Rotation, Kind, split, merge, Reshape, Board}
 use Rattle.rules.specs.WellFormed.{wellFormed}
-use Rattle.rules.specs.Moves.{says, membersOf, isOn, isKind, familyOf, overlaps, oldShards, newShards, committeesFit, boundsStand}
+use Rattle.rules.specs.Moves.{says, membersOf, isOn, isKind, familyOf, overlaps, committeesFit, boundsStand}
 use Rattle.rules.specs.Places.{isScheduledSplit}
 use Rattle.rules.specs.SeatCheck.{membersAreThere, hasCohortSeat, isListed, machinesAreListed, cohortsWatch, partiesOn, partiesFit, rotationsFit, isInOneHalf, scheduledFit, familiesApart, reshapesStand, seatCheck}
 use Rattle.rules.proofs.Counts.{Alike, same, apart, alike, eqb-same, hit, hit-same, hit-apart, occ}
-use Rattle.rules.proofs.Tables.{From, tally, known-most, occ-keysWhere}
+use Rattle.rules.proofs.Tables.{tally, known-most, occ-keysWhere}
 use Rattle.rules.proofs.Tests.{and-parts, and-joins, or-cases, or-left, or-right, all-parts, all-joins, of-not, not-of, eq-of, of-eq, every-parts, every-join, every-none, every-has, has-every, every-at, at-every}
-use Rattle.rules.proofs.SeatsLaws.{bit-yes, bit-no, yes-bit, no-bit, bit-most, holds-bit, stands-bit, listed, tally-le, in-of, of-in, out-of, of-out, in-none, none-in, distinct-once, once-distinct}
-use Rattle.rules.proofs.SeatsFormed.{Sound, Formed, formed}
-use Rattle.rules.proofs.Seats.{seatsAt, watchesAt, hereAt, unit, told, inC, ofSplit, sitting, inSplit, schedAt, schedN, halfAt, inHalves, total, partyOf, party, commN, boundN, kindOf, kindAt, Frame, Seats, seats-most, here-most, here-sum, seats-bit, watches-bit}
-use Rattle.rules.proofs.SeatsMoves.{occ-members, split-bit}
+use Rattle.rules.proofs.SeatsLaws.{bit-yes, bit-no, yes-bit, bit-most, holds-bit, stands-bit, listed, tally-le, in-of, of-in, out-of, in-none, none-in, distinct-once, once-distinct}
+use Rattle.rules.proofs.SeatsFormed.{Formed, formed}
+use Rattle.rules.proofs.Seats.{seatsAt, watchesAt, hereAt, unit, told, inC, ofSplit, sitting, inSplit, schedAt, schedN, halfAt, total, partyOf, party, kindOf, kindAt, Seats, seats-most, here-most, here-sum, seats-bit, watches-bit}
+use Rattle.rules.proofs.SeatsMoves.{occ-members}
 use Rattle.rules.proofs.SeatsRotations.{none-total}
 use Rattle.rules.proofs.SeatsPlaces.{sched-bit}
 use Rattle.rules.proofs.SeatsFrame.{no-overlap, overlap-no, fit-homes, fit-gaps, fit-edges, committees-fit, bounds-stand, kind-known}

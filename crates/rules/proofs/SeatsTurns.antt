@@ -1,9 +1,9 @@
 -- What holds of a step's board if it holds of the board before and of the board of every turn that finishes.
-use mathlib.Core.Path.{_≡_, refl, sym, _∙_}
+use mathlib.Core.Path.{_≡_, refl}
 use mathlib.Core.List.{List, [], _∷_}
 use mathlib.Core.Option.{Option, none, some}
-use mathlib.Core.Bool.{Bool, true, false, cond, not, true≢false}
-use Prim.Native.Nat.{ℕ, zero, suc, _+_, _-_, _≤_, _<_}
+use mathlib.Core.Bool.{Bool, true, false, cond, not}
+use Prim.Native.Nat.{ℕ, _+_, _-_, _≤_}
 use native.Mathlib.Omega.{arith}
 use lib.Dec.{leb}
 use lib.ListN.{length, getD}
@@ -18,9 +18,9 @@ use Rattle.rules.specs.Draws.{Drawn, drew, missing, tooLarge, andThen, d
 use Rattle.rules.specs.Moves.{poolOf, putOn, mayJoin}
 use Rattle.rules.specs.Turns.{Result, Turn, finished, refused, Fault, _gives_, checked, drawn, alone, inTurn, batch, poolDraw}
 use Rattle.rules.proofs.Counts.{hit-same, occ, occ-getD}
-use Rattle.rules.proofs.Tables.{From, tally, occ-keysWhere}
+use Rattle.rules.proofs.Tables.{From, occ-keysWhere}
 use Rattle.rules.proofs.Tests.{le-of}
-use Rattle.rules.proofs.Seats.{pooledAt, pool-of}
+use Rattle.rules.proofs.Seats.{pool-of}
 
 -- a turn that is refused has no board
 unfoldable pub Ends : (Board → Type 0) → Turn → Type 0
