@@ -2,7 +2,7 @@
 use mathlib.Core.Path.{_≡_, refl, sym, _∙_}
 use mathlib.Core.List.{List, [], _∷_}
 use mathlib.Core.Option.{Option, none, some}
-use mathlib.Core.Bool.{Bool}
+use mathlib.Core.Bool.{Bool, true}
 use Prim.Native.Nat.{ℕ, _+_, _*_, _≤_}
 use native.Mathlib.Omega.{arith}
 use Rattle.types.specs.Numbers.{Shard, Id}
@@ -14,9 +14,10 @@ use Rattle.types.specs.declared.Epoch.{Epoch}
 use Rattle.rules.specs.Lists.{bitOf}
 use Rattle.rules.specs.Table.{Table, at, update}
 use Rattle.rules.specs.Board.{Rotation, Kind, split, merge, Reshape, Board}
-use Rattle.rules.specs.Moves.{familyOf, oldShards, newShards}
+use Rattle.rules.specs.Moves.{says, familyOf, oldShards, newShards}
 use Rattle.rules.proofs.Counts.{Alike, same, apart, alike, hit, hit-apart, hit-sym, hit-most, occ}
 use Rattle.rules.proofs.Tables.{tally, tally-update}
+use Rattle.rules.proofs.SeatsLaws.{bit-yes, yes-bit, holds-bit}
 
 -- ---- what a place says of a shard, as numbers
 
@@ -213,6 +214,14 @@ watches-bit s (Seated t r w) = refl
 watches-bit s (Observing t w) = hit-sym (t .0) s
 watches-bit s Short = refl
 watches-bit s (Other m) = refl
+
+-- what a machine's place says, as a test and as a number
+module _ (f : Place → Bool) (g : Place → ℕ) (e : (p : Place) → bitOf (f p) ≡ g p) (b : Board) (x : Id) where
+  pub says-told : says f b x ≡ true → told g b x ≡ 1
+  says-told h = sym (holds-bit f g e x (b .machines)) ∙ bit-yes _ h
+
+  pub told-says : 1 ≤ told g b x → says f b x ≡ true
+  told-says h = yes-bit (says f b x) (omega (arith, holds-bit f g e x (b .machines)))
 
 -- a place on no shard
 pub record Nowhere (p : Place) : Type 0 where

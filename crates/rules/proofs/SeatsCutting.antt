@@ -15,7 +15,7 @@ use Rattle.rules.specs.Board.{Board}
 use Rattle.rules.specs.Moves.{place, join, putOn}
 use Rattle.rules.proofs.Counts.{Alike, same, apart, alike, hit, hit-same, hit-apart, hit-sym, occ}
 use Rattle.rules.proofs.Tables.{tally, known-put}
-use Rattle.rules.proofs.SeatsLaws.{tally-le}
+use Rattle.rules.proofs.SeatsLaws.{zero-unless, tally-le}
 use Rattle.rules.proofs.Seats.{seatsAt, watchesAt, hereAt, told, inC, inSplit, schedN, inHalves, party, commN, boundN, kindAt, Frame, Frame-same, Seats, Nowhere, moved}
 use Rattle.rules.proofs.SeatsMoves.{join-law}
 
@@ -28,7 +28,7 @@ strayAt old (Observing t w) = occ (t .0) old
 strayAt old Short = 0
 strayAt old (Other m) = 0
 
-pub stray-here : (old : List Shard) (t : Shard) (p : Place) → 1 ≤ occ t old → hereAt t p ≤ strayAt old p
+stray-here : (old : List Shard) (t : Shard) (p : Place) → 1 ≤ occ t old → hereAt t p ≤ strayAt old p
 unfolding strayAt seatsAt watchesAt
 stray-here old t p h = go p
   where
@@ -44,7 +44,7 @@ stray-here old t p h = go p
     go (Other m) = omega arith
 
 -- who is astray is on no other shard
-pub stray-only : (old : List Shard) (t : Shard) (p : Place) → 1 ≤ strayAt old p → occ t old ≡ 0 → hereAt t p ≡ 0
+stray-only : (old : List Shard) (t : Shard) (p : Place) → 1 ≤ strayAt old p → occ t old ≡ 0 → hereAt t p ≡ 0
 unfolding strayAt seatsAt watchesAt
 stray-only old t p = go p
   where
@@ -100,11 +100,7 @@ pub record Cutting (old new : List Shard) (b₀ : Board) (rest : List Id) (b : B
 module _ (old new : List Shard) (b₀ : Board) where
   -- a shard with a scheduled split is not gone
   stays : (t : Shard) (rest : List Id) (b : Board) → Cutting old new b₀ rest b → 1 ≤ schedN b t → occ t old ≡ 0
-  stays t rest b h k = go (alike (occ t old) 0)
-    where
-      go : Alike (occ t old) 0 → occ t old ≡ 0
-      go (same p v) = p
-      go (apart p v) = absurd (omega (arith, h .empty t 0 (omega arith) .3))
+  stays t rest b h k = zero-unless (occ t old) (λ o. omega (arith, h .empty t 0 o .3))
 
   -- nobody is left: the check holds
   pub cut-done : (b : Board) → Cutting old new b₀ [] b → Seats b
@@ -134,7 +130,7 @@ module _ (old new : List Shard) (b₀ : Board) where
       parties t x (apart p v) = omega (arith, h .empty t x (omega arith) .2)
 
   -- one that is not astray is passed over
-  pub cut-pass : (x : Id) (rest : List Id) (b : Board) → told (strayAt old) b x ≡ 0 → Cutting old new b₀ (x ∷ rest) b → Cutting old new b₀ rest b
+  cut-pass : (x : Id) (rest : List Id) (b : Board) → told (strayAt old) b x ≡ 0 → Cutting old new b₀ (x ∷ rest) b → Cutting old new b₀ rest b
   unfolding occ
   cut-pass x rest b z h = record {
     members = h .members;
@@ -192,7 +188,7 @@ module _ (old new : List Shard) (b₀ : Board) where
     }
 
     -- it lands on a new shard
-    pub cut-land : (c : Shard) → 1 ≤ occ c new → ((t : Shard) → seatsAt t (move p) ≡ hit t c) → ((t : Shard) → watchesAt t (move p) ≡ 0) → Cutting old new b₀ rest (putOn c move x b)
+    cut-land : (c : Shard) → 1 ≤ occ c new → ((t : Shard) → seatsAt t (move p) ≡ hit t c) → ((t : Shard) → watchesAt t (move p) ≡ 0) → Cutting old new b₀ rest (putOn c move x b)
     unfolding putOn join place
     cut-land c k on eye = record {
       members = λ t y n. omega (arith, join-law c x t y (place x move b), simp (off-seat t n, off-watch t n, on, eye) at (law (hereAt t) y), h .members t y n);

@@ -17,7 +17,7 @@ use Rattle.rules.specs.Reshapes.{familyFree, admissionFaults, newReshape
 use Rattle.rules.proofs.Counts.{Alike, same, apart, alike, eqb-same, hit-same, hit-apart, occ}
 use Rattle.rules.proofs.Tables.{From, at-put, tally, tally-put, occ-keysWhere}
 use Rattle.rules.proofs.Tests.{and-parts, and-joins, every-has, has-every, of-not, not-of}
-use Rattle.rules.proofs.SeatsLaws.{bit-yes, bit-no, yes-bit, no-bit, of-no, stands-bit, out-of, of-out, none-in, in-none}
+use Rattle.rules.proofs.SeatsLaws.{zero-unless, bit-yes, bit-no, yes-bit, no-bit, of-no, stands-bit, out-of, of-out, none-in, in-none}
 use Rattle.rules.proofs.SeatsFormed.{Formed}
 use Rattle.rules.proofs.Seats.{unit, ofSplit, sitting, schedAt, halfAt, commN, boundN, kindOf, kindAt, Frame, Seats}
 use Rattle.rules.proofs.SeatsMoves.{none-split, no-seats}
@@ -57,11 +57,7 @@ no-overlap t u h c m n = omega (arith, out-of c (familyOf t) (none-in (λ s. has
 
 pub overlap-no : (t u : Shard) → ((c : Shard) → 1 ≤ occ c (familyOf t) → 1 ≤ occ c (familyOf u) → ⊥) → overlaps t u ≡ false
 unfolding overlaps
-overlap-no t u h = in-none (λ s. has s (familyOf t)) (familyOf u) (λ c n. of-out c (familyOf t) (go c n (alike (occ c (familyOf t)) 0)))
-  where
-    go : (c : Shard) → 1 ≤ occ c (familyOf u) → Alike (occ c (familyOf t)) 0 → occ c (familyOf t) ≡ 0
-    go c n (same p v) = p
-    go c n (apart p v) = absurd (h c (omega arith) n)
+overlap-no t u h = in-none (λ s. has s (familyOf t)) (familyOf u) (λ c n. of-out c (familyOf t) (zero-unless (occ c (familyOf t)) (λ m. h c m n)))
 
 -- ---- what a reshape asks for, as a test and as counts
 
@@ -95,10 +91,10 @@ kind-known none k h = absurd (Option·none-ne-some k h)
 kind-known (some r) k h = refl
 
 -- no other reshape names a shard of the family
-pub Free : Shard → Board → Type 0
+Free : Shard → Board → Type 0
 Free t b = (u c : Shard) (j : Kind) → kindAt b u ≡ some j → 1 ≤ occ c (familyOf t) → 1 ≤ occ c (familyOf u) → ⊥
 
-pub free-of : (t : Shard) (b : Board) → From 0 (b .reshapes) → familyFree t b ≡ true → Free t b
+free-of : (t : Shard) (b : Board) → From 0 (b .reshapes) → familyFree t b ≡ true → Free t b
 unfolding familyFree keysOf Free
 free-of t b r h u c j e m n = no-overlap t u (none-in (overlaps t) (keysOf (b .reshapes)) (of-not _ h) u (omega (arith, occ-keysWhere (λ v. true) u 0 (b .reshapes) r, kind-known (at u (b .reshapes)) j e))) c m n
 

@@ -12,6 +12,14 @@ use Rattle.rules.proofs.Counts.{Alike, same, apart, alike, hit, hit-sam
 use Rattle.rules.proofs.Tables.{From, tally, occ-keysWhere}
 use Rattle.rules.proofs.Tests.{and-parts, and-joins, or-left, or-right, of-not, not-of, le-of, of-le, lt-of-no, has-occ}
 
+-- what is never 1 or more is 0
+pub zero-unless : (n : ℕ) → (1 ≤ n → ⊥) → n ≡ 0
+zero-unless n h = go (alike n 0)
+  where
+    go : Alike n 0 → n ≡ 0
+    go (same p v) = p
+    go (apart p v) = absurd (h (omega arith))
+
 -- ---- a test is 1 or 0
 
 pub bit-yes : (c : Bool) → c ≡ true → bitOf c ≡ 1
@@ -94,7 +102,7 @@ pub of-out : (x : ℕ) (l : List ℕ) → occ x l ≡ 0 → has x l ≡ false
 of-out x l h = has-occ x l ∙ rw h
 
 -- some number of a list passes a test
-pub any-in : (f : ℕ → Bool) (l : List ℕ) (x : ℕ) → 1 ≤ occ x l → f x ≡ true → any f l ≡ true
+any-in : (f : ℕ → Bool) (l : List ℕ) (x : ℕ) → 1 ≤ occ x l → f x ≡ true → any f l ≡ true
 unfolding any occ
 any-in f [] x o h = absurd (omega arith)
 any-in f (y ∷ l) x o h = go (alike x y) (any-in f l x)
@@ -132,7 +140,7 @@ once-distinct [] h = refl
 once-distinct (y ∷ l) h = and-joins _ _ (not-of _ (of-out y l (omega (arith, h y, hit-same y)))) (once-distinct l (λ x. omega (arith, h x)))
 
 -- a sort neither loses nor makes nor doubles a number
-pub occ-insert : (x y : ℕ) (l : List ℕ) → occ x (insert y l) ≡ hit x y + occ x l
+occ-insert : (x y : ℕ) (l : List ℕ) → occ x (insert y l) ≡ hit x y + occ x l
 unfolding insert occ
 occ-insert x y [] = refl
 occ-insert x y (z ∷ l) = go (leb y z) (occ-insert x y l)

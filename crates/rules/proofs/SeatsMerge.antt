@@ -20,13 +20,17 @@ use Rattle.rules.specs.Moves.{membersOf, place, putOn, forAll, childrenO
 use Rattle.rules.specs.Cut.{recast, others, rejoin}
 use Rattle.rules.proofs.Counts.{Alike, same, apart, alike, hit, hit-same, hit-apart, hit-most, occ, occ-append, occ-keep}
 use Rattle.rules.proofs.Tables.{tally, known-most, occ-keysWhere}
-use Rattle.rules.proofs.SeatsLaws.{bit-yes, stands-bit, tally-le}
+use Rattle.rules.proofs.SeatsLaws.{zero-unless, bit-yes, stands-bit, tally-le}
 use Rattle.rules.proofs.SeatsFormed.{Sound}
 use Rattle.rules.proofs.Seats.{watchesAt, unit, told, sitting, Seats, nowhere-pooled, moved}
 use Rattle.rules.proofs.SeatsMoves.{occ-members}
 use Rattle.rules.proofs.SeatsFrame.{own-family, old-family, old-new}
 use Rattle.rules.proofs.SeatsCutting.{strayAt, stray-cons, stray-nil, stray-of, Cutting, cut-done, cut-clear, pass, pass-none, land}
 use Rattle.rules.proofs.SeatsRecast.{recast-machines, recast-cutting}
+
+-- on the way through a merge's cut
+abbrev Merging : Shard → Board → List Id → Board → Type 0
+Merging t b rest d = Cutting (childrenOf t) (t ∷ []) b rest d
 
 -- a place is on one child at the most
 stray-most : (t : Shard) (p : Place) → strayAt (childrenOf t) p ≤ 1
@@ -58,7 +62,7 @@ module _ (t : Shard) (r : Reshape) (b : Board) (er : at t (b .reshapes) ≡ some
           absurd (omega (arith, old-new merge t u (snd .pos) m))
 
   -- members that are no keepers
-  clear-all : (l rest : List Id) (d : Board) → ((x : Id) → occ x l ≤ told (strayAt (childrenOf t)) d x) → Cutting (childrenOf t) (t ∷ []) b (l ++ rest) d → Cutting (childrenOf t) (t ∷ []) b rest (forAll (λ x. place x pooled) l d)
+  clear-all : (l rest : List Id) (d : Board) → ((x : Id) → occ x l ≤ told (strayAt (childrenOf t)) d x) → Merging t b (l ++ rest) d → Merging t b rest (forAll (λ x. place x pooled) l d)
   unfolding forAll occ tally strayAt place
   clear-all [] rest d low g = g
   clear-all (x ∷ l) rest d low g =
@@ -70,12 +74,12 @@ module _ (t : Shard) (r : Reshape) (b : Board) (er : at t (b .reshapes) ≡ some
       lower y p e lost (apart k v) = omega (arith, simp (hit-apart y x k) at (moved (strayAt (childrenOf t)) x y pooled p (d .machines) e), low y)
 
   -- a keeper that is seated on a child
-  rejoin-one : (x : Id) (rest : List Id) (d : Board) → 1 ≤ tally unit (at x (r .seats)) → Cutting (childrenOf t) (t ∷ []) b (x ∷ rest) d → Cutting (childrenOf t) (t ∷ []) b rest (rejoin t (r .seats) x d)
+  rejoin-one : (x : Id) (rest : List Id) (d : Board) → 1 ≤ tally unit (at x (r .seats)) → Merging t b (x ∷ rest) d → Merging t b rest (rejoin t (r .seats) x d)
   unfolding rejoin tally strayAt watchesAt occ _or_
   rejoin-one x rest d n g = go (at x (d .machines)) refl
     where
       Out : Board → Type 0
-      Out c = Cutting (childrenOf t) (t ∷ []) b rest c
+      Out c = Merging t b rest c
 
       over : (p : Place) → at x (d .machines) ≡ some p → strayAt (childrenOf t) p ≡ 0 → Out d
       over p e z = pass (childrenOf t) (t ∷ []) b x rest d g p e z
@@ -89,14 +93,13 @@ module _ (t : Shard) (r : Reshape) (b : Board) (er : at t (b .reshapes) ≡ some
       seat u s w q e (apart k v) (same m z) = rw (v, z) (home u s w q e (rw m (omega (arith, hit-same (rightOf t)))))
       seat u s w q e (apart k v) (apart m z) = rw (v, z) (over (Seated u s w) e (omega (arith, hit-apart (u .0) (leftOf t) k, hit-apart (u .0) (rightOf t) m)))
 
-      blind : (u : ShardId) (w : Epoch) → at x (d .machines) ≡ some (Observing u w) → Alike (occ (u .0) (childrenOf t)) 0 → occ (u .0) (childrenOf t) ≡ 0
-      blind u w e (same k v) = k
-      blind u w e (apart k v) = absurd (omega (arith, unwatched (u .0) x (omega arith), rw (e, hit-same (u .0)) at (g .eyes (u .0) x)))
+      blind : (u : ShardId) (w : Epoch) → at x (d .machines) ≡ some (Observing u w) → occ (u .0) (childrenOf t) ≡ 0
+      blind u w e = zero-unless (occ (u .0) (childrenOf t)) (λ o. omega (arith, unwatched (u .0) x o, rw (e, hit-same (u .0)) at (g .eyes (u .0) x)))
 
       keeper : (p : Place) → at x (d .machines) ≡ some p → (q : Seat) → Out (cond (isSeatedOn (leftOf t) p or isSeatedOn (rightOf t) p) (putOn t (keptOn t (q .ready)) x d) d)
       keeper Pooled e q = over Pooled e refl
       keeper (Seated u s w) e q = seat u s w q e (alike (u .0) (leftOf t)) (alike (u .0) (rightOf t))
-      keeper (Observing u w) e q = over (Observing u w) e (blind u w e (alike (occ (u .0) (childrenOf t)) 0))
+      keeper (Observing u w) e q = over (Observing u w) e (blind u w e)
       keeper Short e q = over Short e refl
       keeper (Other m) e q = over (Other m) e refl
 
@@ -112,7 +115,7 @@ module _ (t : Shard) (r : Reshape) (b : Board) (er : at t (b .reshapes) ≡ some
       go none e = pass-none (childrenOf t) (t ∷ []) b x rest d g e
       go (some p) e = named p e (at x (r .seats)) refl
 
-  rejoin-all : (l rest : List Id) (d : Board) → ((x : Id) → occ x l ≤ tally unit (at x (r .seats))) → Cutting (childrenOf t) (t ∷ []) b (l ++ rest) d → Cutting (childrenOf t) (t ∷ []) b rest (forAll (rejoin t (r .seats)) l d)
+  rejoin-all : (l rest : List Id) (d : Board) → ((x : Id) → occ x l ≤ tally unit (at x (r .seats))) → Merging t b (l ++ rest) d → Merging t b rest (forAll (rejoin t (r .seats)) l d)
   unfolding forAll occ
   rejoin-all [] rest d m g = g
   rejoin-all (x ∷ l) rest d m g = rejoin-all l rest (rejoin t (r .seats) x d) (λ y. omega (arith, m y)) (rejoin-one x (l ++ rest) d (omega (arith, m x, hit-same x)) g)

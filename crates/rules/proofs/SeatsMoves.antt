@@ -13,9 +13,10 @@ use Rattle.types.specs.declared.Place.the-variants.{Pooled, Seated, Observing}
 use Rattle.rules.specs.Lists.{bitOf, strike}
 use Rattle.rules.specs.Table.{Table, at, put, update}
 use Rattle.rules.specs.Board.{Rotation, Kind, split, merge, Seat, Reshape, Board, onRotations, onReshapes, epochOf}
-use Rattle.rules.specs.Moves.{membersOf, place, join, quit, putOn, takeOff, forAll, withSeats, isKind, newSeat, watch}
+use Rattle.rules.specs.Moves.{membersOf, place, join, quit, putOn, takeOff, forAll, withSeats, isKind, reshapeAt, newSeat, watch}
 use Rattle.rules.proofs.Counts.{Alike, same, apart, alike, hit, hit-same, hit-apart, occ, occ-append, occ-single, occ-strike}
 use Rattle.rules.proofs.Tables.{tally, at-each, tally-update, tally-put, tally-same, known-put}
+use Rattle.rules.proofs.SeatsLaws.{holds-bit}
 use Rattle.rules.proofs.Seats.{seatsAt, watchesAt, hereAt, unit, told, inC, ofSplit, sitting, inSplit, schedAt, schedN, halfAt, inHalves, party, commN, boundN, kindOf, kindAt, Frame, Frame-same, Seats, Nowhere, moved}
 
 -- ---- one move after another
@@ -46,7 +47,7 @@ pub join-law : (s : Shard) (x : Id) (t : Shard) (y : Id) (b : Board) → inC (jo
 unfolding join
 join-law s x t y b = omega (arith, simp (occ-append, occ-single, occ-members) at (tally-put (occ y) t s (membersOf s b ++ (x ∷ [])) (b .committees)))
 
-pub quit-law : (s : Shard) (x : Id) (t : Shard) (y : Id) (b : Board) → inC (quit s x b) t y + hit t s * (hit y x * inC b s x) ≡ inC b t y
+quit-law : (s : Shard) (x : Id) (t : Shard) (y : Id) (b : Board) → inC (quit s x b) t y + hit t s * (hit y x * inC b s x) ≡ inC b t y
 unfolding quit tally
 quit-law s x t y b = omega (arith, tally-update (occ y) t s (strike x) (b .committees), ap (λ n. hit t s * n) (struck (at s (b .committees))))
   where
@@ -98,13 +99,13 @@ pub steady-seats : (f : Table Seat → Table Seat) → Steady (withSeats f)
 steady-seats f = record { kind = λ r. refl; sched = λ r. refl; halves = λ x r. refl }
 
 module _ (t : Shard) (f : Reshape → Reshape) (c : Table Reshape) (q : Steady f) where
-  pub steady-kind : (s : Shard) → kindOf (at s (update t f c)) ≡ kindOf (at s c)
+  steady-kind : (s : Shard) → kindOf (at s (update t f c)) ≡ kindOf (at s c)
   steady-kind s = kind-update t s f c (q .kind)
 
   pub steady-sched : (s : Shard) → tally schedAt (at s (update t f c)) ≡ tally schedAt (at s c)
   steady-sched s = tally-same schedAt f (q .sched) s t c
 
-  pub steady-half : (s : Shard) (x : Id) → tally (halfAt x) (at s (update t f c)) ≡ tally (halfAt x) (at s c)
+  steady-half : (s : Shard) (x : Id) → tally (halfAt x) (at s (update t f c)) ≡ tally (halfAt x) (at s c)
   steady-half s x = tally-same (halfAt x) f (q .halves x) s t c
 
 -- nothing counted is nothing, whatever the kind; so an empty cohort has no seat
@@ -129,7 +130,10 @@ split-bit r = go (r .kind)
     go split = refl
     go merge = refl
 
-pub kind-split : (o : Option Reshape) → 1 ≤ tally (λ r. ofSplit (r .kind) 1) o → kindOf o ≡ some split
+pub split-at : (s : Shard) (b : Board) → bitOf (reshapeAt split s b) ≡ splitN b s
+split-at s b = holds-bit (isKind split) (λ r. ofSplit (r .kind) 1) split-bit s (b .reshapes)
+
+kind-split : (o : Option Reshape) → 1 ≤ tally (λ r. ofSplit (r .kind) 1) o → kindOf o ≡ some split
 unfolding tally ofSplit
 kind-split none h = absurd (omega arith)
 kind-split (some r) h = go (r .kind) h
@@ -139,7 +143,7 @@ kind-split (some r) h = go (r .kind) h
     go merge z = absurd (omega arith)
 
 -- a seat is put
-pub sit-law : (t : Shard) (x : Id) (q : Seat) (s : Shard) (y : Id) (c : Table Reshape)
+sit-law : (t : Shard) (x : Id) (q : Seat) (s : Shard) (y : Id) (c : Table Reshape)
     → tally (sitting y) (at s (update t (withSeats (put x q)) c)) + hit s t * (hit y x * tally (sitting x) (at t c)) ≡ tally (sitting y) (at s c) + hit s t * (hit y x * tally (λ r. ofSplit (r .kind) 1) (at t c))
 unfolding tally ofSplit
 sit-law t x q s y c = omega (arith, tally-update (sitting y) s t (withSeats (put x q)) c, ap (λ n. hit s t * n) (more (at t c)))
@@ -171,6 +175,15 @@ seat-keeps s e x b p c d h = record {
     off : (t : Shard) → 1 ≤ schedN b t → hit t s ≡ 0
     off t k = hit-apart t s (λ q. omega (arith, rw q at k))
 
+-- room for one more part of one who is seated and no party
+pub spare : (s : Shard) (x : Id) (b : Board) → 1 ≤ told (seatsAt s) b x → party s x (b .rotations) ≡ 0 → Seats b → (t : Shard) (y : Id) → party t y (b .rotations) + hit y x * hit t s ≤ told (seatsAt t) b y
+spare s x b on free h t y = go (alike t s) (alike y x)
+  where
+    go : Alike t s → Alike y x → party t y (b .rotations) + hit y x * hit t s ≤ told (seatsAt t) b y
+    go (same u v) (same k l) = rw (u, k, free) (simp hit-same (omega arith))
+    go (same u v) (apart k l) = rw (hit-apart y x k) (omega (arith, h .parties t y))
+    go (apart u v) c = rw (hit-apart t s u) (omega (arith, h .parties t y))
+
 -- ---- MOVE 2: a machine that is seated on a shard and party to no rotation there goes to a place on no shard
 
 pub unseat-keeps : (s : Shard) (move : Place → Place) (x : Id) (q : Place) (b : Board) → at x (b .machines) ≡ some q → ((t : Shard) → seatsAt t q ≡ hit t s) → ((t : Shard) → watchesAt t q ≡ 0)
@@ -179,7 +192,7 @@ unfolding takeOff quit place tally
 unseat-keeps s move x q b e on eye free np h = record {
   members = λ t y. omega (arith, rw there at (quit-law s x t y (place x move b)), simp (on, eye, np .seats, np .watches) at (law (hereAt t) y), h .members t y);
   watchers = λ t y. omega (arith, simp (eye, np .watches) at (law (watchesAt t) y), h .watchers t y);
-  parties = λ t y. omega (arith, simp (on, np .seats) at (law (seatsAt t) y), spare t y (alike t s) (alike y x));
+  parties = λ t y. omega (arith, simp (on, np .seats) at (law (seatsAt t) y), spare s x b (rw e (rw (on s) (omega (arith, hit-same s)))) free h t y);
   calm = h .calm;
   halved = λ t y k n. h .halved t y k (omega (arith, simp (on, np .seats) at (law (seatsAt t) y), n));
   frame = Frame-same (λ t. refl) (λ t. tally-same unit (strike x) (λ v. refl) t s (b .committees)) (λ t k. k) (h .frame);
@@ -191,14 +204,10 @@ unseat-keeps s move x q b e on eye free np h = record {
     law : (g : Place → ℕ) (y : Id) → told g (place x move b) y + hit y x * g q ≡ told g b y + hit y x * g (move q)
     law g y = moved g x y move q (b .machines) e
 
-    spare : (t : Shard) (y : Id) → Alike t s → Alike y x → party t y (b .rotations) + hit y x * hit t s ≤ told (seatsAt t) b y
-    spare t y (same u v) (same k l) = rw (u, k, free, e) (simp (on, hit-same) (omega arith))
-    spare t y (same u v) (apart k l) = rw (hit-apart y x k) (omega (arith, h .parties t y))
-    spare t y (apart u v) c = rw (hit-apart t s u) (omega (arith, h .parties t y))
-
 -- ---- MOVE 3: other rotations, or fewer
 
-pub turns-keep : (f : List Rotation → List Rotation) (b : Board) → ((s : Shard) (x : Id) → party s x (f (b .rotations)) ≤ told (seatsAt s) b x) → ((s : Shard) (x : Id) → 1 ≤ schedN b s → party s x (f (b .rotations)) ≡ 0)
+pub turns-keep : (f : List Rotation → List Rotation) (b : Board) → ((s : Shard) (x : Id) → party s x (f (b .rotations)) ≤ told (seatsAt s) b x)
+    → ((s : Shard) (x : Id) → 1 ≤ schedN b s → party s x (f (b .rotations)) ≡ 0)
     → Seats b → Seats (onRotations f b)
 turns-keep f b p q h = record { members = h .members; watchers = h .watchers; parties = p; calm = q; halved = h .halved; frame = h .frame }
 
@@ -245,7 +254,8 @@ leaving t f gone b q e h = record {
 }
 
 -- one of them leaves
-pub unwatch-keeps : (t : Shard) (move : Place → Place) (x : Id) (q : Place) (rest : List Id) (b : Board) → at x (b .machines) ≡ some q → ((s : Shard) → watchesAt s q ≡ hit s t) → ((s : Shard) → seatsAt s q ≡ 0)
+pub unwatch-keeps : (t : Shard) (move : Place → Place) (x : Id) (q : Place) (rest : List Id) (b : Board) → at x (b .machines) ≡ some q → ((s : Shard) → watchesAt s q ≡ hit s t)
+    → ((s : Shard) → seatsAt s q ≡ 0)
     → Nowhere (move q) → Leaving t (x ∷ rest) b → Leaving t rest (takeOff t move x b)
 unfolding takeOff quit place tally occ
 unwatch-keeps t move x q rest b e eye off np h = record {

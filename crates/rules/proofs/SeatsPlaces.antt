@@ -24,10 +24,10 @@ use Rattle.rules.specs.Places.{tick, isScheduledSplit, leaveSeat, leaveF
 use Rattle.rules.proofs.Counts.{Alike, same, apart, alike, eqb-same, hit, hit-same, hit-apart, occ, occ-single}
 use Rattle.rules.proofs.Tables.{From, From-update, tally, tally-update, tally-remove, tally-same, tally-each, known-most}
 use Rattle.rules.proofs.Tests.{and-parts, of-not, eq-of}
-use Rattle.rules.proofs.SeatsLaws.{bit-yes, bit-no, of-no, holds-bit, some-bit, stands-bit}
+use Rattle.rules.proofs.SeatsLaws.{bit-yes, bit-no, of-no, holds-bit, some-bit, stands-bit, tally-le}
 use Rattle.rules.proofs.SeatsFormed.{Formed}
-use Rattle.rules.proofs.Seats.{seatsAt, watchesAt, hereAt, unit, told, ofSplit, sitting, inSplit, schedAt, schedN, halfAt, total, partyOf, party, commN, Seats, seats-most, seat-of, here-sum, seats-bit, Nowhere, nowhere-short, nowhere-pooled, moved}
-use Rattle.rules.proofs.SeatsMoves.{stands-of, Steady, steady-sched, splitN, split-bit, seat-keeps, unseat-keeps, turns-keep, fewer-keep, unseen-keeps, left-all, leaving, unwatch-keeps}
+use Rattle.rules.proofs.Seats.{says-told, seatsAt, watchesAt, hereAt, unit, told, ofSplit, sitting, inSplit, schedAt, schedN, halfAt, total, partyOf, party, commN, Seats, seats-most, seat-of, here-sum, seats-bit, Nowhere, nowhere-short, nowhere-pooled, moved}
+use Rattle.rules.proofs.SeatsMoves.{stands-of, Steady, steady-sched, splitN, split-at, seat-keeps, spare, unseat-keeps, turns-keep, fewer-keep, unseen-keeps, left-all, leaving, unwatch-keeps}
 use Rattle.rules.proofs.SeatsRotations.{total-open, total-drop, drop-least, drop-most, none-total, some-total, total-keep, party-yes, party-no}
 use Rattle.rules.proofs.SeatsTurns.{Ends, checked-ends, alone-ends, pool-ends}
 
@@ -40,7 +40,7 @@ tick-kept b h = alone-ends Seats [] b _ h (checked-ends Seats _ _ (λ p. record 
 -- ---- TIME OUT
 
 -- a change of places that moves nobody
-pub still-keeps : (f : Place → Place) (b : Board) → ((s : Shard) (p : Place) → seatsAt s (f p) ≡ seatsAt s p) → ((s : Shard) (p : Place) → watchesAt s (f p) ≡ watchesAt s p)
+still-keeps : (f : Place → Place) (b : Board) → ((s : Shard) (p : Place) → seatsAt s (f p) ≡ seatsAt s p) → ((s : Shard) (p : Place) → watchesAt s (f p) ≡ watchesAt s p)
     → Seats b → Seats (onMachines (each (λ x. f)) b)
 still-keeps f b se wa h = record {
   members = λ s x. h .members s x ∙ sym (same-told (hereAt s) (λ p. rw (se s p, wa s p)) x);
@@ -81,7 +81,8 @@ timeOut-kept b h = alone-ends Seats [] b _ h (checked-ends Seats _ _ (λ p. stil
 
 -- ---- who is seated on a shard and no party there leaves it
 
-pub unseat-one : (s : Shard) (move : Place → Place) (x : Id) (b : Board) → ((t : ShardId) (r : Bool) (w : Epoch) → t .0 ≡ s → Nowhere (move (Seated t r w))) → 1 ≤ told (seatsAt s) b x → party s x (b .rotations) ≡ 0 → Seats b → Seats (takeOff s move x b)
+unseat-one : (s : Shard) (move : Place → Place) (x : Id) (b : Board) → ((t : ShardId) (r : Bool) (w : Epoch) → t .0 ≡ s → Nowhere (move (Seated t r w))) → 1 ≤ told (seatsAt s) b x
+    → party s x (b .rotations) ≡ 0 → Seats b → Seats (takeOff s move x b)
 unfolding seatsAt watchesAt
 unseat-one s move x b np on free h =
     let q = seat-of s (at x (b .machines)) on in
@@ -92,8 +93,11 @@ unseat-pooled s x b on free h = unseat-one s (pooledFrom (isSeatedOn s)) x b (λ
 
 -- ---- LEAVE
 
--- a machine's seat goes: nothing else of the reshape changes
-give-steady : (k : Kind) (x : Id) → Steady (λ r. cond (isKind k r) (withSeats (remove x) r) r)
+-- a reshape of a kind without a machine's seat: nothing else changes
+abbrev given : Kind → Id → Reshape → Reshape
+given k x r = cond (isKind k r) (withSeats (remove x) r) r
+
+give-steady : (k : Kind) (x : Id) → Steady (given k x)
 give-steady k x = record { kind = λ r. kind r (isKind k r); sched = λ r. sched r (isKind k r); halves = λ y r. halves y r (isKind k r) }
   where
     kind : (r : Reshape) (c : Bool) → (cond c (withSeats (remove x) r) r) .kind ≡ r .kind
@@ -109,7 +113,7 @@ give-steady k x = record { kind = λ r. kind r (isKind k r); sched = λ r. sched
     halves y r false = refl
 
 -- a keeper's seat is none of a split
-keeper-sits : (x y : Id) (r : Reshape) → sitting y (cond (isKind merge r) (withSeats (remove x) r) r) ≡ sitting y r
+keeper-sits : (x y : Id) (r : Reshape) → sitting y (given merge x r) ≡ sitting y r
 unfolding isKind ofSplit
 keeper-sits x y r = go (r .kind) refl
   where
@@ -117,7 +121,7 @@ keeper-sits x y r = go (r .kind) refl
     go split e = refl
     go merge e = rw e
 
-pub cohort-sits : (x y : Id) (r : Reshape) → sitting y (cond (isKind split r) (withSeats (remove x) r) r) + hit y x * sitting x r ≡ sitting y r
+cohort-sits : (x y : Id) (r : Reshape) → sitting y (given split x r) + hit y x * sitting x r ≡ sitting y r
 unfolding isKind ofSplit
 cohort-sits x y r = go (r .kind) refl
   where
@@ -127,9 +131,9 @@ cohort-sits x y r = go (r .kind) refl
 
 give-law : (t : Shard) (x : Id) (s : Shard) (y : Id) (b : Board) → inSplit (giveUpSeat split t x b) s y + hit s t * (hit y x * inSplit b t x) ≡ inSplit b s y
 unfolding giveUpSeat tally
-give-law t x s y b = omega (arith, tally-update (sitting y) s t (λ r. cond (isKind split r) (withSeats (remove x) r) r) (b .reshapes), ap (λ n. hit s t * n) (less (at t (b .reshapes))))
+give-law t x s y b = omega (arith, tally-update (sitting y) s t (given split x) (b .reshapes), ap (λ n. hit s t * n) (less (at t (b .reshapes))))
   where
-    less : (o : Option Reshape) → tally (λ r. sitting y (cond (isKind split r) (withSeats (remove x) r) r)) o + hit y x * tally (sitting x) o ≡ tally (sitting y) o
+    less : (o : Option Reshape) → tally (λ r. sitting y (given split x r)) o + hit y x * tally (sitting x) o ≡ tally (sitting y) o
     less none = omega arith
     less (some r) = cohort-sits x y r
 
@@ -150,7 +154,7 @@ leave-watch : (x : Id) (u : ShardId) (w : Epoch) (b : Board) → at x (b .machin
 unfolding giveUpSeat takeOff quit place tally seatsAt watchesAt
 leave-watch x u w b e h =
     left-all (u .0) _ (unwatch-keeps (u .0) short x (Observing u w) [] _ e (λ s. refl) (λ s. refl) nowhere-short
-    (leaving (u .0) (λ r. cond (isKind split r) (withSeats (remove x) r) r) (x ∷ []) b (give-steady split x) gone h))
+    (leaving (u .0) (given split x) (x ∷ []) b (give-steady split x) gone h))
   where
     sits : inSplit b (u .0) x ≡ 1
     sits = h .watchers (u .0) x ∙ simp (e, hit-same)
@@ -230,20 +234,14 @@ rotate-one : (s : Shard) (v x : Id) (b : Board) → at x (b .machines) ≡ some 
 unfolding putOn join place seatsAt
 rotate-one s v x b e c d on free h =
     turns-keep (openRotation (newRotation s v x b)) (putOn s (drawnTo s (epochOf b)) x b)
-    (λ t y. omega (arith, total-open (partyOf t y) (newRotation s v x b) (b .rotations), moved (seatsAt t) x y (drawnTo s (epochOf b)) Pooled (b .machines) e, spare t y (alike t s) (alike y v)))
+    (λ t y. omega (arith, total-open (partyOf t y) (newRotation s v x b) (b .rotations), moved (seatsAt t) x y (drawnTo s (epochOf b)) Pooled (b .machines) e, spare s v b on free h t y))
     (λ t y k. omega (arith, rw (hit-apart t s (λ p. omega (arith, rw p at k))) at (total-open (partyOf t y) (newRotation s v x b) (b .rotations)), h .calm t y k))
     (seat-keeps s (epochOf b) x b e c d h)
-  where
-    spare : (t : Shard) (y : Id) → Alike t s → Alike y v → party t y (b .rotations) + hit y v * hit t s ≤ told (seatsAt t) b y
-    spare t y (same p q) (same k l) = rw (p, k, free) (simp hit-same (omega arith))
-    spare t y (same p q) (apart k l) = rw (hit-apart y v k) (omega (arith, h .parties t y))
-    spare t y (apart p q) k = rw (hit-apart t s p) (omega (arith, h .parties t y))
 
 -- only splits are scheduled
-pub sched-split : (o : Option Reshape) → tally schedAt o ≤ tally (λ r. ofSplit (r .kind) 1) o
-unfolding tally ofSplit
-sched-split none = omega arith
-sched-split (some r) = go (r .kind) (r .terminal)
+sched-split : (o : Option Reshape) → tally schedAt o ≤ tally (λ r. ofSplit (r .kind) 1) o
+unfolding ofSplit
+sched-split o = tally-le schedAt (λ r. ofSplit (r .kind) 1) (λ r. go (r .kind) (r .terminal)) o
   where
     go : (k : Kind) (o : Option ℕ) → ofSplit k (tally unit o) ≤ ofSplit k 1
     go split o = known-most o
@@ -255,7 +253,7 @@ rotate-turn s v draws b may ids h = checked-ends Seats _ _ (λ k.
     let fit = and-parts _ _ (of-no _ (k .0)) in
     pool-ends Seats s (leb mostRotations (length (b .rotations))) (λ x. onRotations (openRotation (newRotation s v x b))) draws b ids h (λ x e.
     rotate-one s v x b e comm calm
-    (omega (arith, sym (holds-bit (isSeatedOn s) (seatsAt s) (seats-bit s) v (b .machines)) ∙ bit-yes _ (fit .0)))
+    (omega (arith, says-told (isSeatedOn s) (seatsAt s) (seats-bit s) b v (fit .0)))
     (none-total (partyOf s v) (hasParty s v) (party-no s v) (b .rotations) (of-not _ (fit .1))) h))
   where
     there : (stands s (b .committees) ≡ true) × ((not (reshapeAt split s b) and ltb (inFlight s b) (b .settings .most)) ≡ true)
@@ -265,7 +263,7 @@ rotate-turn s v draws b may ids h = checked-ends Seats _ _ (λ k.
     comm = sym (stands-bit s (b .committees)) ∙ bit-yes _ (there .0)
 
     none-there : splitN b s ≡ 0
-    none-there = sym (holds-bit (isKind split) (λ r. ofSplit (r .kind) 1) split-bit s (b .reshapes)) ∙ bit-no (reshapeAt split s b) (of-not (reshapeAt split s b) (and-parts _ _ (there .1) .0))
+    none-there = sym (split-at s b) ∙ bit-no (reshapeAt split s b) (of-not (reshapeAt split s b) (and-parts _ _ (there .1) .0))
 
     calm : schedN b s ≡ 0
     calm = omega (arith, sched-split (at s (b .reshapes)), none-there)

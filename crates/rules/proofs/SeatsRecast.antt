@@ -15,7 +15,7 @@ use Rattle.rules.specs.Moves.{forAll, familyOf, oldShards, newShards, ne
 use Rattle.rules.specs.Cut.{endShard, beginShard, recast}
 use Rattle.rules.proofs.Counts.{Alike, same, apart, alike, eqb-same, eqb-apart, hit, hit-same, hit-apart, occ}
 use Rattle.rules.proofs.Tables.{cond-const, at-put, at-remove, tally, tally-remove, known-most, known-more}
-use Rattle.rules.proofs.SeatsLaws.{none-told}
+use Rattle.rules.proofs.SeatsLaws.{zero-unless, none-told}
 use Rattle.rules.proofs.Seats.{seatsAt, watchesAt, hereAt, unit, told, inC, ofSplit, sitting, inSplit, schedAt, schedN, halfAt, inHalves, party, commN, boundN, kindOf, kindAt, Frame, Seats}
 use Rattle.rules.proofs.SeatsMoves.{forAll-keeps}
 use Rattle.rules.proofs.SeatsRotations.{party-gone, party-stays, party-fewer}
@@ -112,11 +112,7 @@ module _ (k : Kind) (t : Shard) (height : Height) (b : Board) where
 
     -- no other reshape names a shard of the family
     out : (u c : Shard) (j : Kind) → kindAt b u ≡ some j → u ≢ t → 1 ≤ occ c (familyOf u) → occ c (familyOf t) ≡ 0
-    out u c j p n m = go (alike (occ c (familyOf t)) 0)
-      where
-        go : Alike (occ c (familyOf t)) 0 → occ c (familyOf t) ≡ 0
-        go (same q v) = q
-        go (apart q v) = absurd (n (h .frame .families u t c j k p own-kind m (omega arith)))
+    out u c j p n m = zero-unless (occ c (familyOf t)) (λ q. n (h .frame .families u t c j k p own-kind m q))
 
     -- nothing stands at a shard of the family
     vacant : (u : Shard) → 1 ≤ occ u (familyOf t) → at u (recast k t height b .reshapes) ≡ none
@@ -147,7 +143,7 @@ module _ (k : Kind) (t : Shard) (height : Height) (b : Board) where
       halved = λ u x s n. halved u x s (rw (told-same (seatsAt u) x) at n) (alike u t);
       frame = recast-frame;
       empty = λ u x m. let v = vacant u (omega (arith, old-family k t u)) in (ap (tally (occ x)) (comm-old u pos m), ap (tally (sitting x)) v, party-old u x m, ap (tally schedAt) v);
-      fresh = λ c m. (ap (tally unit) (comm-new c m), ap (tally schedAt) (vacant c (omega (arith, new-family k t c))), not-old c m (alike (occ c (oldShards k t)) 0));
+      fresh = λ c m. (ap (tally unit) (comm-new c m), ap (tally schedAt) (vacant c (omega (arith, new-family k t c))), zero-unless (occ c (oldShards k t)) (λ o. omega (arith, old-new k t c pos o, m)));
       eyes = λ u x. omega (arith, told-same (watchesAt u) x);
       pending = λ x. rw (told-same (strayAt (oldShards k t)) x) (due x);
     }
@@ -170,7 +166,3 @@ module _ (k : Kind) (t : Shard) (height : Height) (b : Board) where
         calm : (u : Shard) (x : Id) → 1 ≤ schedN (recast k t height b) u → Alike (occ u (oldShards k t)) 0 → party u x (recast k t height b .rotations) ≡ 0
         calm u x s (same p v) = party-other u x p ∙ h .calm u x (omega (arith, sched-less u))
         calm u x s (apart p v) = party-old u x (omega arith)
-
-        not-old : (c : Shard) → 1 ≤ occ c (newShards k t) → Alike (occ c (oldShards k t)) 0 → occ c (oldShards k t) ≡ 0
-        not-old c m (same p v) = p
-        not-old c m (apart p v) = absurd (omega (arith, old-new k t c pos (omega arith)))

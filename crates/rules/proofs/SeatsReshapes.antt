@@ -26,7 +26,7 @@ use Rattle.rules.proofs.Tests.{and-parts}
 use Rattle.rules.proofs.SeatsLaws.{bit-yes, bit-no, bit-most, and-most, of-no, holds-bit, listed, tally-le, occ-sort}
 use Rattle.rules.proofs.SeatsFormed.{Formed}
 use Rattle.rules.proofs.Seats.{seatsAt, watchesAt, pooledAt, unit, told, inC, ofSplit, sitting, inSplit, schedAt, halfAt, party, kindAt, Frame-same, Seats, seats-most, seat-of, watch-of, pool-of, here-sum, here-most, seats-bit, nowhere-pooled, moved}
-use Rattle.rules.proofs.SeatsMoves.{forAll-keeps, forAll-swap, occ-members, no-seats, kind-of, kind-is, steady-seats, kind-update, splitN, split-bit, fewer-keep, unseen-keeps, Leaving, left-all, leaving, unwatch-keeps, watch-keeps}
+use Rattle.rules.proofs.SeatsMoves.{forAll-keeps, forAll-swap, occ-members, no-seats, kind-of, kind-is, steady-seats, kind-update, splitN, split-bit, split-at, fewer-keep, unseen-keeps, Leaving, left-all, leaving, unwatch-keeps, watch-keeps}
 use Rattle.rules.proofs.SeatsRotations.{party-gone, party-fewer, entrants-party}
 use Rattle.rules.proofs.SeatsTurns.{Ends, checked-ends, drawn-ends, alone-ends, batch-ends}
 use Rattle.rules.proofs.SeatsPlaces.{unseat-pooled}
@@ -131,7 +131,7 @@ released-keeps t b wf sp h =
     gone s x = rw (cohort-occ t x b wf sp) (omega (arith, rw (bare x (at t (b .reshapes))) at (tally-update (sitting x) s t (withSeats (λ seats. [])) (b .reshapes))))
 
 split-there : (t : Shard) (b : Board) → reshapeAt split t b ≡ true → splitN b t ≡ 1
-split-there t b h = sym (holds-bit (isKind split) (λ r. ofSplit (r .kind) 1) split-bit t (b .reshapes)) ∙ bit-yes _ h
+split-there t b h = sym (split-at t b) ∙ bit-yes _ h
 
 pub lapse-kept : (t : Shard) (b : Board) → Formed b → Seats b → Seats (lapse t b .board)
 unfolding lapse Ends
@@ -140,7 +140,8 @@ lapse-kept t b wf h = alone-ends Seats [] b _ h (checked-ends Seats _ _ (λ p. r
 -- ---- SCHEDULES
 
 -- the rotations of a shard gone, their entrants leave it
-abort-all : (s : Shard) (l : List Id) (b : Board) → ((x : Id) → occ x l ≤ told (seatsAt s) b x) → ((x : Id) → party s x (b .rotations) ≡ 0) → Seats b → Seats (forAll (takeOff s (pooledFrom (isSeatedOn s))) l b)
+abort-all : (s : Shard) (l : List Id) (b : Board) → ((x : Id) → occ x l ≤ told (seatsAt s) b x) → ((x : Id) → party s x (b .rotations) ≡ 0) → Seats b
+    → Seats (forAll (takeOff s (pooledFrom (isSeatedOn s))) l b)
 unfolding forAll occ takeOff quit place seatsAt tally
 abort-all s [] b o free h = h
 abort-all s (x ∷ l) b o free h =
@@ -149,7 +150,7 @@ abort-all s (x ∷ l) b o free h =
     (λ y. omega (arith, simp (q .4, eqb-same, hit-same s) at (moved (seatsAt s) x y (pooledFrom (isSeatedOn s)) (Seated (q .0) (q .1) (q .2)) (b .machines) (q .3)), o y))
     free (unseat-pooled s x b (omega (arith, o x, hit-same x)) (free x) h)
 
-pub abort-keeps : (s : Shard) (b : Board) → Seats b → Seats (abortRotations s b)
+abort-keeps : (s : Shard) (b : Board) → Seats b → Seats (abortRotations s b)
 unfolding abortRotations takeOff quit place
 abort-keeps s b h =
     rw (forAll-swap (onRotations (dropRotations s)) (takeOff s (pooledFrom (isSeatedOn s))) (λ x c. refl) (entrantsOn s (b .rotations)) b)
@@ -237,7 +238,8 @@ seated-occ t x b h = occ-sort x _ ∙ occ-keep (says (isSeatedOn t) b) x (member
     go true e = omega (arith, bit, bit-yes (says (isSeatedOn t) b x) e, h .members t x, here-sum t (at x (b .machines)), here-most t (at x (b .machines)))
     go false e = sym (sym bit ∙ bit-no _ e)
 
-halves-occ : (t : Shard) (k : ℕ) (draws ids left : List ℕ) (b : Board) → Seats b → shuffle (seatedThere t b) draws ≡ drew ids left → (x : Id) → occ x (take k ids) + occ x (drop k ids) ≡ told (seatsAt t) b x
+halves-occ : (t : Shard) (k : ℕ) (draws ids left : List ℕ) (b : Board) → Seats b → shuffle (seatedThere t b) draws ≡ drew ids left → (x : Id)
+    → occ x (take k ids) + occ x (drop k ids) ≡ told (seatsAt t) b x
 halves-occ t k draws ids left b h e x = sym (occ-append x (take k ids) (drop k ids)) ∙ rw take-append-drop (shuffle-keeps x (seatedThere t b) draws ids left e .1 ∙ seated-occ t x b h)
 
 gate-ends : (t : Shard) (left right : List Id) (draws : List ℕ) (b : Board) → ((x : Id) → party t x (b .rotations) ≡ 0) → ((x : Id) → occ x left + occ x right ≡ told (seatsAt t) b x)

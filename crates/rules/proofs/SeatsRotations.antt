@@ -82,7 +82,7 @@ module _ (g : Rotation → ℕ) where
         go false h = omega arith
 
     -- only what counts nothing is kept, or only what counts nothing goes
-    pub keep-none : ((r : Rotation) → f r ≡ true → g r ≡ 0) → (l : List Rotation) → total g (keep f l) ≡ 0
+    keep-none : ((r : Rotation) → f r ≡ true → g r ≡ 0) → (l : List Rotation) → total g (keep f l) ≡ 0
     unfolding total keep
     keep-none k [] = refl
     keep-none k (r ∷ l) = go (f r) refl (keep-none k l)
@@ -91,7 +91,7 @@ module _ (g : Rotation → ℕ) where
         go true e h = omega (arith, k r e)
         go false e h = h
 
-    pub keep-all : ((r : Rotation) → f r ≡ false → g r ≡ 0) → (l : List Rotation) → total g (keep f l) ≡ total g l
+    keep-all : ((r : Rotation) → f r ≡ false → g r ≡ 0) → (l : List Rotation) → total g (keep f l) ≡ total g l
     unfolding total keep
     keep-all k [] = refl
     keep-all k (r ∷ l) = go (f r) refl (keep-all k l)

@@ -26,6 +26,10 @@ use Rattle.rules.proofs.Seats.{seatsAt, watchesAt, unit, told, ofSplit,
 use Rattle.rules.proofs.SeatsCutting.{strayAt, stray-cons, stray-nil, Cutting, cut-done, pass, pass-none, land}
 use Rattle.rules.proofs.SeatsRecast.{recast-cutting}
 
+-- on the way through a split's cut
+abbrev Splitting : Shard → Board → List Id → Board → Type 0
+Splitting t b rest d = Cutting (t ∷ []) (childrenOf t) b rest d
+
 module _ (t : Shard) (r : Reshape) (b : Board) (er : at t (b .reshapes) ≡ some r) (ks : r .kind ≡ split) (h : Seats b) where
   -- who watches has a seat, and who has a seat watches the target and no other shard
   has-seat : (x : Id) → told (watchesAt t) b x ≡ tally unit (at x (r .seats))
@@ -37,12 +41,12 @@ module _ (t : Shard) (r : Reshape) (b : Board) (er : at t (b .reshapes) ≡ some
   one-eye u x n k = let q = watch-of t (at x (b .machines)) (omega (arith, has-seat x)) in rw (q .2) (hit-apart u _ (λ e. n (e ∙ q .3)))
 
   -- seated on the target, or watching it, one is settled; else passed over
-  settle-one : (c : Shard) → 1 ≤ occ c (childrenOf t) → (x : Id) (rest : List Id) (d : Board) → Cutting (t ∷ []) (childrenOf t) b (x ∷ rest) d → Cutting (t ∷ []) (childrenOf t) b rest (settle t c (r .seats) x d)
+  settle-one : (c : Shard) → 1 ≤ occ c (childrenOf t) → (x : Id) (rest : List Id) (d : Board) → Splitting t b (x ∷ rest) d → Splitting t b rest (settle t c (r .seats) x d)
   unfolding settle tally strayAt watchesAt occ
   settle-one c k x rest d g = go (at x (d .machines)) refl
     where
       Out : Board → Type 0
-      Out c = Cutting (t ∷ []) (childrenOf t) b rest c
+      Out c = Splitting t b rest c
 
       over : (p : Place) → at x (d .machines) ≡ some p → strayAt (t ∷ []) p ≡ 0 → Out d
       over p e z = pass (t ∷ []) (childrenOf t) b x rest d g p e z
@@ -79,7 +83,7 @@ module _ (t : Shard) (r : Reshape) (b : Board) (er : at t (b .reshapes) ≡ some
       go (some Short) e = idle (over Short e refl) (at x (r .seats))
       go (some (Other m)) e = idle (over (Other m) e refl) (at x (r .seats))
 
-  settle-all : (c : Shard) → 1 ≤ occ c (childrenOf t) → (l rest : List Id) (d : Board) → Cutting (t ∷ []) (childrenOf t) b (l ++ rest) d → Cutting (t ∷ []) (childrenOf t) b rest (forAll (settle t c (r .seats)) l d)
+  settle-all : (c : Shard) → 1 ≤ occ c (childrenOf t) → (l rest : List Id) (d : Board) → Splitting t b (l ++ rest) d → Splitting t b rest (forAll (settle t c (r .seats)) l d)
   unfolding forAll
   settle-all c k [] rest d g = g
   settle-all c k (x ∷ l) rest d g = settle-all c k l rest (settle t c (r .seats) x d) (settle-one c k x (l ++ rest) d g)

@@ -23,21 +23,13 @@ use Rattle.rules.proofs.Tables.{tally, known-most, occ-keysWhere}
 use Rattle.rules.proofs.Tests.{and-parts, and-joins, or-cases, or-left, or-right, all-parts, all-joins, of-not, not-of, eq-of, of-eq, every-parts, every-join, every-none, every-has, has-every, every-at, at-every}
 use Rattle.rules.proofs.SeatsLaws.{bit-yes, bit-no, yes-bit, bit-most, holds-bit, stands-bit, listed, tally-le, in-of, of-in, out-of, in-none, none-in, distinct-once, once-distinct}
 use Rattle.rules.proofs.SeatsFormed.{Formed, formed}
-use Rattle.rules.proofs.Seats.{seatsAt, watchesAt, hereAt, unit, told, inC, ofSplit, sitting, inSplit, schedAt, schedN, halfAt, total, partyOf, party, kindOf, kindAt, Seats, seats-most, here-most, here-sum, seats-bit, watches-bit}
+use Rattle.rules.proofs.Seats.{says-told, told-says, seatsAt, watchesAt, hereAt, unit, told, inC, ofSplit, sitting, inSplit, schedAt, schedN, halfAt, total, partyOf, party, kindOf, kindAt, Seats, seats-most, here-most, here-sum, seats-bit, watches-bit}
 use Rattle.rules.proofs.SeatsMoves.{occ-members}
 use Rattle.rules.proofs.SeatsRotations.{none-total}
 use Rattle.rules.proofs.SeatsPlaces.{sched-bit}
 use Rattle.rules.proofs.SeatsFrame.{no-overlap, overlap-no, fit-homes, fit-gaps, fit-edges, committees-fit, bounds-stand, kind-known}
 
 -- ---- tests of one place, one reshape, one list, as numbers
-
--- what a machine's place says, as a test and as a number
-module _ (f : Place → Bool) (g : Place → ℕ) (e : (p : Place) → bitOf (f p) ≡ g p) (b : Board) (x : Id) where
-  says-told : says f b x ≡ true → told g b x ≡ 1
-  says-told h = sym (holds-bit f g e x (b .machines)) ∙ bit-yes _ h
-
-  told-says : 1 ≤ told g b x → says f b x ≡ true
-  told-says h = yes-bit (says f b x) (omega (arith, holds-bit f g e x (b .machines)))
 
 abbrev isHere : Shard → Place → Bool
 isHere s p = isSeatedOn s p or observes s p

@@ -28,7 +28,7 @@ Ends P (finished n left c) = P c
 Ends P (refused a) = Unit {0}
 
 -- of a result's board
-abbrev pub OnBoard : (Board → Type 0) → Result → Type 0
+abbrev OnBoard : (Board → Type 0) → Result → Type 0
 OnBoard P r = P (r .board)
 
 -- no check fails
@@ -58,7 +58,7 @@ module _ (P : Board → Type 0) where
   alone-ends draws b (refused a) p q = p
 
   -- a batch: every turn of its list keeps what holds
-  pub turns-end : (turn : Shard → List ℕ → Board → Turn) (l : List Shard) → ((s : Shard) (draws : List ℕ) (b : Board) → 1 ≤ occ s l → P b → Ends P (turn s draws b))
+  turns-end : (turn : Shard → List ℕ → Board → Turn) (l : List Shard) → ((s : Shard) (draws : List ℕ) (b : Board) → 1 ≤ occ s l → P b → Ends P (turn s draws b))
       → (handled used : ℕ) (draws : List ℕ) (b : Board) → P b → P (inTurn turn l handled used draws b .board)
   unfolding inTurn Ends occ
   turns-end turn [] h handled used draws b p = p
@@ -84,7 +84,7 @@ module _ (P : Board → Type 0) where
       go false e = p
 
 -- who is drawn stands in the list
-pub drawn-from : (l : List Id) (draws : List ℕ) (x : Id) (left : List ℕ) → drawFrom l draws ≡ drew (some x) left → 1 ≤ occ x l
+drawn-from : (l : List Id) (draws : List ℕ) (x : Id) (left : List ℕ) → drawFrom l draws ≡ drew (some x) left → 1 ≤ occ x l
 unfolding drawFrom andThen drawIndex
 drawn-from [] draws x left e = absurd (let z : _≡_ {A = ℕ} 0 1 = cc in omega arith)
 drawn-from (y ∷ l) [] x left e = absurd (let z : _≡_ {A = ℕ} 0 1 = cc in omega arith)
@@ -95,7 +95,7 @@ drawn-from (y ∷ l) (j ∷ draws) x left e = go (leb j (length l)) refl e
     go false u f = absurd (let z : _≡_ {A = ℕ} 0 1 = cc in omega arith)
 
 -- who is in the pool is pooled
-pub in-pool : (b : Board) (x : Id) → From 0 (b .machines) → 1 ≤ occ x (poolOf b) → at x (b .machines) ≡ some Pooled
+in-pool : (b : Board) (x : Id) → From 0 (b .machines) → 1 ≤ occ x (poolOf b) → at x (b .machines) ≡ some Pooled
 unfolding poolOf
 in-pool b x r h = pool-of (at x (b .machines)) (omega (arith, occ-keysWhere isPooled x 0 (b .machines) r))
 
