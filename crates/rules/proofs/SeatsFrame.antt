@@ -67,7 +67,9 @@ fit-homes k t b h c m = sym (stands-bit c (b .committees)) ∙ bit-yes _ (every-
 
 pub fit-gaps : (k : Kind) (t : Shard) (b : Board) → committeesFit k t b ≡ true → (c : Shard) → 1 ≤ occ c (newShards k t) → commN b c ≡ 0
 unfolding committeesFit
-fit-gaps k t b h c m = sym (stands-bit c (b .committees)) ∙ bit-no (stands c (b .committees)) (of-not (stands c (b .committees)) (every-has (λ s. not (stands s (b .committees))) (newShards k t) c (and-parts _ _ h .1) m))
+fit-gaps k t b h c m =
+    sym (stands-bit c (b .committees)) ∙ bit-no (stands c (b .committees))
+    (of-not (stands c (b .committees)) (every-has (λ s. not (stands s (b .committees))) (newShards k t) c (and-parts _ _ h .1) m))
 
 pub fit-edges : (k : Kind) (t : Shard) (b : Board) → boundsStand k t b ≡ true → (c : Shard) → 1 ≤ occ c (oldShards k t) → boundN b c ≡ 1
 unfolding boundsStand
@@ -96,7 +98,8 @@ Free t b = (u c : Shard) (j : Kind) → kindAt b u ≡ some j → 1 ≤ occ c (f
 
 free-of : (t : Shard) (b : Board) → From 0 (b .reshapes) → familyFree t b ≡ true → Free t b
 unfolding familyFree keysOf Free
-free-of t b r h u c j e m n = no-overlap t u (none-in (overlaps t) (keysOf (b .reshapes)) (of-not _ h) u (omega (arith, occ-keysWhere (λ v. true) u 0 (b .reshapes) r, kind-known (at u (b .reshapes)) j e))) c m n
+free-of t b r h u c j e m n =
+    no-overlap t u (none-in (overlaps t) (keysOf (b .reshapes)) (of-not _ h) u (omega (arith, occ-keysWhere (λ v. true) u 0 (b .reshapes) r, kind-known (at u (b .reshapes)) j e))) c m n
 
 module _ (t : Shard) (r : Reshape) (b : Board) (free : Free t b) where
   put-own : (u : Shard) → u ≡ t → kindAt (onReshapes (put t r) b) u ≡ some (r .kind)
@@ -170,7 +173,8 @@ admit-ends k t handled seats draws b wf fits edges nq h = checked-ends Seats _ _
 
 pub admitSplit-kept : (t : Shard) (b : Board) → Formed b → Seats b → Seats (admitSplit t b .board)
 unfolding admitSplit admissionFaults
-admitSplit-kept t b wf h = alone-ends Seats [] b _ h (checked-ends Seats _ _ (λ p. admit-ends split t 1 [] [] b wf (of-no _ (p .1 .1 .0)) (of-no _ (p .1 .1 .1 .0)) (λ x. no-seats x split) h))
+admitSplit-kept t b wf h =
+    alone-ends Seats [] b _ h (checked-ends Seats _ _ (λ p. admit-ends split t 1 [] [] b wf (of-no _ (p .1 .1 .0)) (of-no _ (p .1 .1 .1 .0)) (λ x. no-seats x split) h))
 
 pub admitMerge-kept : (t : Shard) (draws : List ℕ) (b : Board) → Formed b → Seats b → Seats (admitMerge t draws b .board)
 unfolding admitMerge admissionFaults ofSplit

@@ -139,7 +139,8 @@ module _ (t : Shard) (r : Reshape) (b : Board) (er : at t (b .reshapes) ≡ some
     where
       go : (c : Bool) → stands x (r .seats) ≡ c → (cond (not c) (told (strayAt (childrenOf t)) b x) 0 ≤ told (strayAt (childrenOf t)) b x)
           × (told (strayAt (childrenOf t)) b x ≤ cond (not c) (told (strayAt (childrenOf t)) b x) 0 + tally unit (at x (r .seats)))
-      go true e = (omega arith, omega (arith, tally-le (strayAt (childrenOf t)) unit (stray-most t) (at x (b .machines)), known-most (at x (b .machines)), stands-bit x (r .seats), bit-yes (stands x (r .seats)) e))
+      go true e =
+          (omega arith, omega (arith, tally-le (strayAt (childrenOf t)) unit (stray-most t) (at x (b .machines)), known-most (at x (b .machines)), stands-bit x (r .seats), bit-yes (stands x (r .seats)) e))
       go false e = (omega arith, omega arith)
 
   pub cut-merge-keeps : (height : Height) → Seats (forAll (rejoin t (r .seats)) (keysOf (r .seats)) (forAll (λ x. place x pooled) (others t (r .seats) b) (recast merge t height b)))

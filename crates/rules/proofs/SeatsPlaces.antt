@@ -35,7 +35,8 @@ use Rattle.rules.proofs.SeatsTurns.{Ends, checked-ends, alone-ends, poo
 
 pub tick-kept : (b : Board) → Seats b → Seats (tick b .board)
 unfolding tick Ends
-tick-kept b h = alone-ends Seats [] b _ h (checked-ends Seats _ _ (λ p. record { members = h .members; watchers = h .watchers; parties = h .parties; calm = h .calm; halved = h .halved; frame = h .frame }))
+tick-kept b h =
+    alone-ends Seats [] b _ h (checked-ends Seats _ _ (λ p. record { members = h .members; watchers = h .watchers; parties = h .parties; calm = h .calm; halved = h .halved; frame = h .frame }))
 
 -- ---- TIME OUT
 
@@ -56,7 +57,8 @@ still-keeps f b se wa h = record {
 
 pub timeOut-kept : (b : Board) → Seats b → Seats (timeOut b .board)
 unfolding timeOut Ends seatsAt watchesAt
-timeOut-kept b h = alone-ends Seats [] b _ h (checked-ends Seats _ _ (λ p. still-keeps (λ p. cond (isDue b p) (madeReady p) p) b (λ s. whoever (seatsAt s) (seat s)) (λ s. whoever (watchesAt s) (eye s)) h))
+timeOut-kept b h =
+    alone-ends Seats [] b _ h (checked-ends Seats _ _ (λ p. still-keeps (λ p. cond (isDue b p) (madeReady p) p) b (λ s. whoever (seatsAt s) (seat s)) (λ s. whoever (watchesAt s) (eye s)) h))
   where
     seat : (s : Shard) (p : Place) → seatsAt s (madeReady p) ≡ seatsAt s p
     seat s Pooled = refl
@@ -179,7 +181,9 @@ sched-bit r = go (r .kind)
 -- the first rotation of a party gone, it is a party no more
 leave-party : (s : Shard) (x : Id) (b : Board) → 1 ≤ told (seatsAt s) b x → isParty s x b ≡ true → Seats b → Seats (onRotations (dropFirst (hasParty s x)) (leaveSeat s x b))
 unfolding leaveSeat giveUpSeat takeOff quit place isParty
-leave-party s x b on p h = leaveSeat-keeps s x (onRotations (dropFirst (hasParty s x)) b) on free (fewer-keep (dropFirst (hasParty s x)) b (λ t y. total-drop (partyOf t y) (hasParty s x) (b .rotations)) h)
+leave-party s x b on p h =
+    leaveSeat-keeps s x (onRotations (dropFirst (hasParty s x)) b) on free
+    (fewer-keep (dropFirst (hasParty s x)) b (λ t y. total-drop (partyOf t y) (hasParty s x) (b .rotations)) h)
   where
     free : party s x (dropFirst (hasParty s x) (b .rotations)) ≡ 0
     free = omega (arith, drop-least (partyOf s x) (hasParty s x) 1 (party-yes s x) (b .rotations) p, h .parties s x, seats-most s (at x (b .machines)))
@@ -188,7 +192,9 @@ leave-party s x b on p h = leaveSeat-keeps s x (onRotations (dropFirst (hasParty
 leave-fill : (s : Shard) (x : Id) (draws : List ℕ) (b : Board) → From 0 (b .machines) → 1 ≤ told (seatsAt s) b x → schedN b s ≡ 0 → Seats b → Seats (leaveSeat s x b)
     → Ends Seats (poolDraw s false (λ y c. c) draws (leaveSeat s x b))
 unfolding leaveSeat giveUpSeat takeOff quit place
-leave-fill s x draws b ids on calm h k = pool-ends Seats s false (λ y c. c) draws (leaveSeat s x b) (From-update x short 0 (b .machines) ids) k (λ y e. seat-keeps s (epochOf b) y (leaveSeat s x b) e comm sched k)
+leave-fill s x draws b ids on calm h k =
+    pool-ends Seats s false (λ y c. c) draws (leaveSeat s x b) (From-update x short 0 (b .machines) ids) k
+    (λ y e. seat-keeps s (epochOf b) y (leaveSeat s x b) e comm sched k)
   where
     comm : commN (leaveSeat s x b) s ≡ 1
     comm = tally-same unit (strike x) (λ v. refl) s s (b .committees) ∙ stands-of x (at s (b .committees)) (omega (arith, h .members s x, here-sum s (at x (b .machines))))

@@ -51,11 +51,15 @@ ended k t b = forAll endShard (oldShards k t) (onReshapes (remove t) b)
 module _ (k : Kind) (t : Shard) (height : Height) (b : Board) where
   pub recast-machines : recast k t height b .machines ≡ b .machines
   unfolding recast
-  recast-machines = forAll-keeps (λ c. c .machines ≡ b .machines) (beginShard height) (λ s c e. e) (newShards k t) _ (forAll-keeps (λ c. c .machines ≡ b .machines) endShard (λ s c e. e) (oldShards k t) _ refl)
+  recast-machines =
+      forAll-keeps (λ c. c .machines ≡ b .machines) (beginShard height) (λ s c e. e) (newShards k t) _
+      (forAll-keeps (λ c. c .machines ≡ b .machines) endShard (λ s c e. e) (oldShards k t) _ refl)
 
   pub recast-reshapes : recast k t height b .reshapes ≡ remove t (b .reshapes)
   unfolding recast
-  recast-reshapes = forAll-keeps (λ c. c .reshapes ≡ remove t (b .reshapes)) (beginShard height) (λ s c e. e) (newShards k t) _ (forAll-keeps (λ c. c .reshapes ≡ remove t (b .reshapes)) endShard (λ s c e. e) (oldShards k t) _ refl)
+  recast-reshapes =
+      forAll-keeps (λ c. c .reshapes ≡ remove t (b .reshapes)) (beginShard height) (λ s c e. e) (newShards k t) _
+      (forAll-keeps (λ c. c .reshapes ≡ remove t (b .reshapes)) endShard (λ s c e. e) (oldShards k t) _ refl)
 
   recast-rotations : recast k t height b .rotations ≡ ended k t b .rotations
   unfolding recast
@@ -63,7 +67,8 @@ module _ (k : Kind) (t : Shard) (height : Height) (b : Board) where
 
   -- the old shards' rotations
   party-old : (u : Shard) (x : Id) → 1 ≤ occ u (oldShards k t) → party u x (recast k t height b .rotations) ≡ 0
-  party-old u x m = rw recast-rotations (seen (λ c. party u x (c .rotations)) endShard u 0 (λ c. party-gone u x (c .rotations)) (λ s c e. omega (arith, party-fewer s u x (c .rotations))) (oldShards k t) _ m)
+  party-old u x m =
+      rw recast-rotations (seen (λ c. party u x (c .rotations)) endShard u 0 (λ c. party-gone u x (c .rotations)) (λ s c e. omega (arith, party-fewer s u x (c .rotations))) (oldShards k t) _ m)
 
   party-other : (u : Shard) (x : Id) → occ u (oldShards k t) ≡ 0 → party u x (recast k t height b .rotations) ≡ party u x (b .rotations)
   party-other u x n = rw recast-rotations (unseen (λ c. party u x (c .rotations)) endShard u (λ s c p. party-stays s u x (c .rotations) p) (oldShards k t) _ n)
@@ -71,14 +76,18 @@ module _ (k : Kind) (t : Shard) (height : Height) (b : Board) where
   -- the committees
   comm-new : (u : Shard) → 1 ≤ occ u (newShards k t) → at u (recast k t height b .committees) ≡ some []
   unfolding recast
-  comm-new u m = seen (λ c. at u (c .committees)) (beginShard height) u (some []) (λ c. rw (at-put u u [] (c .committees), eqb-same)) (λ s c e. rw (at-put u s [] (c .committees), e) (cond-const (eqb u s) _)) (newShards k t) (ended k t b) m
+  comm-new u m =
+      seen (λ c. at u (c .committees)) (beginShard height) u (some []) (λ c. rw (at-put u u [] (c .committees), eqb-same))
+      (λ s c e. rw (at-put u s [] (c .committees), e) (cond-const (eqb u s) _)) (newShards k t) (ended k t b) m
 
   comm-ended : (u : Shard) → occ u (newShards k t) ≡ 0 → at u (recast k t height b .committees) ≡ at u (ended k t b .committees)
   unfolding recast
   comm-ended u n = unseen (λ c. at u (c .committees)) (beginShard height) u (λ s c p. rw (at-put u s [] (c .committees), eqb-apart u s p)) (newShards k t) (ended k t b) n
 
   comm-old : (u : Shard) → 1 ≤ t → 1 ≤ occ u (oldShards k t) → at u (recast k t height b .committees) ≡ none
-  comm-old u pos m = comm-ended u (old-new k t u pos m) ∙ seen (λ c. at u (c .committees)) endShard u none (λ c. rw (at-remove u u (c .committees), eqb-same)) (λ s c e. rw (at-remove u s (c .committees), e) (cond-const (eqb u s) _)) (oldShards k t) _ m
+  comm-old u pos m =
+      comm-ended u (old-new k t u pos m) ∙ seen (λ c. at u (c .committees)) endShard u none (λ c. rw (at-remove u u (c .committees), eqb-same))
+      (λ s c e. rw (at-remove u s (c .committees), e) (cond-const (eqb u s) _)) (oldShards k t) _ m
 
   comm-other : (u : Shard) → occ u (oldShards k t) ≡ 0 → occ u (newShards k t) ≡ 0 → at u (recast k t height b .committees) ≡ at u (b .committees)
   comm-other u n m = comm-ended u m ∙ unseen (λ c. at u (c .committees)) endShard u (λ s c p. rw (at-remove u s (c .committees), eqb-apart u s p)) (oldShards k t) _ n
@@ -86,7 +95,10 @@ module _ (k : Kind) (t : Shard) (height : Height) (b : Board) where
   -- the boundaries
   bound-stays : (u : Shard) → boundN b u ≡ 1 → boundN (recast k t height b) u ≡ 1
   unfolding recast
-  bound-stays u h = forAll-keeps (λ c. boundN c u ≡ 1) (beginShard height) (λ s c e. omega (arith, e, known-more u s (newBoundary height (epochOf c)) (c .bounds), known-most (at u (put s (newBoundary height (epochOf c)) (c .bounds))))) (newShards k t) _
+  bound-stays u h =
+      forAll-keeps (λ c. boundN c u ≡ 1) (beginShard height)
+      (λ s c e. omega (arith, e, known-more u s (newBoundary height (epochOf c)) (c .bounds), known-most (at u (put s (newBoundary height (epochOf c)) (c .bounds)))))
+      (newShards k t) _
       (forAll-keeps (λ c. boundN c u ≡ 1) endShard (λ s c e. e) (oldShards k t) _ h)
 
   -- ---- the check, but for those still on the old shards

@@ -77,7 +77,14 @@ watch-all t ids b h =
 -- a split that awaits its cohort is a split
 awaits-split : (t : Shard) (b : Board) → holdsAt t awaitsCohort (b .reshapes) ≡ true → splitN b t ≡ 1
 unfolding awaitsCohort
-awaits-split t b h = omega (arith, sym (holds-bit awaitsCohort (λ r. bitOf (awaitsCohort r)) (λ r. refl) t (b .reshapes)) ∙ bit-yes _ h, tally-le _ _ less (at t (b .reshapes)), tally-le _ _ most (at t (b .reshapes)), known-most (at t (b .reshapes)))
+awaits-split t b h =
+    omega (
+      arith,
+      sym (holds-bit awaitsCohort (λ r. bitOf (awaitsCohort r)) (λ r. refl) t (b .reshapes)) ∙ bit-yes _ h,
+      tally-le _ _ less (at t (b .reshapes)),
+      tally-le _ _ most (at t (b .reshapes)),
+      known-most (at t (b .reshapes)),
+    )
   where
     less : (r : Reshape) → bitOf (awaitsCohort r) ≤ ofSplit (r .kind) 1
     less r = omega (arith, and-most (isKind split r) (not (isSome (r .terminal)) and isEmpty (r .seats)), split-bit r)
@@ -289,7 +296,9 @@ schedule-merge b t draws c m h = go (at t (c .reshapes)) refl
     not-split r e k = omega (arith, rw (kind-of t r merge c e (h .kinds t ∙ m)) at k)
 
     pass : (r : Reshape) → at t (c .reshapes) ≡ some r → (z : Bool) → Ends (Kinds b) (cond z (drainOrSchedule t r [] [] draws c) (finished 0 draws c))
-    pass r e true = drain-ends (Kinds b) t r [] [] draws c marks (kind-kept _ (λ q. refl) (drain-keeps t _ c (h .seats))) (kind-kept _ (λ q. refl) (terminal-keeps t _ [] [] r c e (λ k. absurd (not-split r e k)) (h .seats))) h
+    pass r e true =
+        drain-ends (Kinds b) t r [] [] draws c marks (kind-kept _ (λ q. refl) (drain-keeps t _ c (h .seats)))
+        (kind-kept _ (λ q. refl) (terminal-keeps t _ [] [] r c e (λ k. absurd (not-split r e k)) (h .seats))) h
     pass r e false = h
 
     go : (o : Option Reshape) → at t (c .reshapes) ≡ o → Ends (Kinds b) (elim o [
@@ -301,7 +310,8 @@ schedule-merge b t draws c m h = go (at t (c .reshapes)) refl
 
 pub scheduleMerges-kept : (b : Board) → Formed b → Seats b → Seats (scheduleMerges b .board)
 unfolding scheduleMerges unscheduled
-scheduleMerges-kept b wf h = batch-ends (Kinds b) scheduleMerge (unscheduled merge b) [] b (λ w s ds c o. schedule-merge b s ds c (due-kind s o)) (record { seats = h; kinds = λ t. refl }) .seats
+scheduleMerges-kept b wf h =
+    batch-ends (Kinds b) scheduleMerge (unscheduled merge b) [] b (λ w s ds c o. schedule-merge b s ds c (due-kind s o)) (record { seats = h; kinds = λ t. refl }) .seats
   where
     due-kind : (t : Shard) → 1 ≤ occ t (unscheduled merge b) → kindAt b t ≡ some merge
     due-kind t o = let q = listed _ t (b .reshapes) (wf .targets) o in rw (q .1) (ap some (kind-is merge (q .0) (and-parts _ _ (q .2) .0)))

@@ -67,7 +67,9 @@ module _ (t : Shard) (r : Reshape) (b : Board) (er : at t (b .reshapes) ≡ some
           → Out (elim o [ none ↦ d | some q ↦ putOn c (seatedFromWatch c (q .ready) (epochOf d)) x d ])
       look u w e none f (apart p v) = over (Observing u w) e (omega (arith, hit-apart (u .0) t p))
       look u w e none f (same p v) = absurd (omega (arith, rw f at (has-seat x), g .eyes t x, rw p at (seen u w e)))
-      look u w e (some q) f (same p v) = land (t ∷ []) (childrenOf t) b x rest d g c k (seatedFromWatch c (q .ready) (epochOf d)) (Observing u w) (shardId c) (q .ready) (epochAt (epochOf d)) e (rw p (omega (arith, hit-same t))) refl refl
+      look u w e (some q) f (same p v) =
+          land (t ∷ []) (childrenOf t) b x rest d g c k (seatedFromWatch c (q .ready) (epochOf d)) (Observing u w) (shardId c) (q .ready) (epochAt (epochOf d)) e
+          (rw p (omega (arith, hit-same t))) refl refl
       look u w e (some q) f (apart p v) = absurd (omega (arith, one-eye (u .0) x p (rw f (omega arith)), g .eyes (u .0) x, seen u w e))
 
       go : (o : Option Place) → at x (d .machines) ≡ o → Out (elim o [
@@ -92,7 +94,13 @@ module _ (t : Shard) (r : Reshape) (b : Board) (er : at t (b .reshapes) ≡ some
     -- the cohort of both children is all that has a seat
     cohort-all : (x : Id) → tally unit (at x (r .seats)) ≤ occ x (cohortFor (leftOf t) (r .seats)) + occ x (cohortFor (rightOf t) (r .seats))
     unfolding cohortFor tally
-    cohort-all x = omega (arith, occ-keysWhere (λ q. eqb (q .child) (leftOf t)) x 0 (r .seats) (snd .rows), occ-keysWhere (λ q. eqb (q .child) (rightOf t)) x 0 (r .seats) (snd .rows), side (at x (r .seats)) refl)
+    cohort-all x =
+        omega (
+          arith,
+          occ-keysWhere (λ q. eqb (q .child) (leftOf t)) x 0 (r .seats) (snd .rows),
+          occ-keysWhere (λ q. eqb (q .child) (rightOf t)) x 0 (r .seats) (snd .rows),
+          side (at x (r .seats)) refl,
+        )
       where
         side : (o : Option Seat) → at x (r .seats) ≡ o → tally unit o ≤ tally (λ q. bitOf (eqb (q .child) (leftOf t))) o + tally (λ q. bitOf (eqb (q .child) (rightOf t))) o
         side none e = omega arith
@@ -112,8 +120,11 @@ module _ (t : Shard) (r : Reshape) (b : Board) (er : at t (b .reshapes) ≡ some
     pub cut-split-keeps : Seats (settleChild t (rightOf t) (r .right) (r .seats) (settleChild t (leftOf t) (r .left) (r .seats) (recast split t (heightOf t b) b)))
     unfolding settleChild occ
     cut-split-keeps =
-        let first = settle-all (leftOf t) (omega (arith, hit-same (leftOf t))) lefts (rights ++ []) _ (recast-cutting split t (heightOf t b) b r er ks (snd .pos) h (lefts ++ (rights ++ [])) due) in
+        let first =
+        settle-all (leftOf t) (omega (arith, hit-same (leftOf t))) lefts (rights ++ []) _
+        (recast-cutting split t (heightOf t b) b r er ks (snd .pos) h (lefts ++ (rights ++ [])) due) in
         cut-done (t ∷ []) (childrenOf t) b _ (settle-all (rightOf t) (omega (arith, hit-same (rightOf t))) rights [] _ first)
       where
         due : (x : Id) → told (strayAt (t ∷ [])) b x ≤ occ x (lefts ++ (rights ++ []))
-        due x = simp (occ-append, append-nil) (omega (arith, stray-cons t [] (at x (b .machines)), stray-nil (at x (b .machines)), here-sum t (at x (b .machines)), has-seat x, cohort-all x, halves-all x (alike (told (seatsAt t) b x) 0)))
+        due x =
+            simp (occ-append, append-nil) (omega (arith, stray-cons t [] (at x (b .machines)), stray-nil (at x (b .machines)), here-sum t (at x (b .machines)), has-seat x, cohort-all x, halves-all x (alike (told (seatsAt t) b x) 0)))

@@ -137,7 +137,8 @@ module _ (b : Board) where
         where
           side : (not (isKind split r) ≡ true) ⊎ (every (says (observes s) b) (keysOf (r .seats)) ≡ true) → (isKind split r ≡ true) × (stands x (r .seats) ≡ true) → 1 ≤ told (watchesAt s) b x
           side (inl z) q = absurd (true≢false (sym (q .0) ∙ of-not _ z))
-          side (inr z) q = omega (arith, says-told (observes s) (watchesAt s) (watches-bit s) b x (every-has _ _ x z (omega (arith, occ-keysWhere (λ v. true) x 0 (r .seats) (wf .sound s r e .rows), stands-bit x (r .seats), bit-yes _ (q .1)))))
+          side (inr z) q =
+              omega (arith, says-told (observes s) (watchesAt s) (watches-bit s) b x (every-has _ _ x z (omega (arith, occ-keysWhere (λ v. true) x 0 (r .seats) (wf .sound s r e .rows), stands-bit x (r .seats), bit-yes _ (q .1)))))
 
   watcher-sits : machinesAreListed b ≡ true → (s : Shard) (x : Id) → 1 ≤ told (watchesAt s) b x → 1 ≤ inSplit b s x
   unfolding machinesAreListed isListed hasCohortSeat tally watchesAt
@@ -156,7 +157,12 @@ module _ (b : Board) where
       go (some (Other n)) e m = absurd (omega arith)
 
   sits-most : (s : Shard) (x : Id) → inSplit b s x ≤ 1
-  sits-most s x = omega (arith, tally-le (sitting x) unit (λ r. omega (arith, sits-bit x r, bit-most (isKind split r and stands x (r .seats)))) (at s (b .reshapes)), known-most (at s (b .reshapes)))
+  sits-most s x =
+      omega (
+        arith,
+        tally-le (sitting x) unit (λ r. omega (arith, sits-bit x r, bit-most (isKind split r and stands x (r .seats)))) (at s (b .reshapes)),
+        known-most (at s (b .reshapes)),
+      )
 
   eye-most : (s : Shard) (x : Id) → told (watchesAt s) b x ≤ 1
   eye-most s x = omega (arith, here-sum s (at x (b .machines)), here-most s (at x (b .machines)))
@@ -227,7 +233,13 @@ module _ (b : Board) where
         where
           side : (not (isSeatedOn s p) ≡ true) ⊎ (eqb (bitOf (has x (r .left)) + bitOf (has x (r .right))) 1 ≡ true) → halfAt x r ≡ 1
           side (inl z) = absurd (omega (arith, seats-bit s p, bit-no (isSeatedOn s p) (of-not (isSeatedOn s p) z)))
-          side (inr z) = omega (arith, eq-of (bitOf (has x (r .left)) + bitOf (has x (r .right))) 1 z, has-bit x (r .left) (wf .sound s r e .left x), has-bit x (r .right) (wf .sound s r e .right x))
+          side (inr z) =
+              omega (
+                arith,
+                eq-of (bitOf (has x (r .left)) + bitOf (has x (r .right))) 1 z,
+                has-bit x (r .left) (wf .sound s r e .left x),
+                has-bit x (r .right) (wf .sound s r e .right x),
+              )
 
   -- ---- reshapes: 'families don't overlap', 'the committees, gaps and boundaries'
 
@@ -323,7 +335,8 @@ module _ (b : Board) (wf : Formed b) (h : Seats b) where
   cohorts-watch = at-every _ 0 (b .reshapes) (wf .targets) (λ s r e. go s r e (isKind split r) refl)
     where
       sits : (s : Shard) (r : Reshape) (x : Id) → at s (b .reshapes) ≡ some r → isKind split r ≡ true → 1 ≤ occ x (keysOf (r .seats)) → sitting x r ≡ 1
-      sits s r x e k m = sym (sits-bit x r) ∙ bit-yes _ (and-joins _ _ k (yes-bit (stands x (r .seats)) (omega (arith, stands-bit x (r .seats), occ-keysWhere (λ v. true) x 0 (r .seats) (wf .sound s r e .rows)))))
+      sits s r x e k m =
+          sym (sits-bit x r) ∙ bit-yes _ (and-joins _ _ k (yes-bit (stands x (r .seats)) (omega (arith, stands-bit x (r .seats), occ-keysWhere (λ v. true) x 0 (r .seats) (wf .sound s r e .rows)))))
 
       go : (s : Shard) (r : Reshape) → at s (b .reshapes) ≡ some r → (c : Bool) → isKind split r ≡ c → (not c or every (says (observes s) b) (keysOf (r .seats))) ≡ true
       go s r e true k = or-right _ _ (has-every _ _ (λ x m. told-says (observes s) (watchesAt s) (watches-bit s) b x (omega (arith, sits s r x e k m, rw e at (h .watchers s x)))))
@@ -368,7 +381,9 @@ module _ (b : Board) (wf : Formed b) (h : Seats b) where
 
   families-fit : familiesApart (keysOf (b .reshapes)) ≡ true
   unfolding keysOf
-  families-fit = apart-families (keysOf (b .reshapes)) (λ t. omega (arith, keys t, known-most (at t (b .reshapes)))) (λ t u c m n. let p = known-kind t m in let q = known-kind u n in h .frame .families t u c (p .0) (q .0) (p .1) (q .1))
+  families-fit =
+      apart-families (keysOf (b .reshapes)) (λ t. omega (arith, keys t, known-most (at t (b .reshapes))))
+      (λ t u c m n. let p = known-kind t m in let q = known-kind u n in h .frame .families t u c (p .0) (q .0) (p .1) (q .1))
     where
       keys : (t : Shard) → occ t (keysOf (b .reshapes)) ≡ tally unit (at t (b .reshapes))
       keys t = occ-keysWhere (λ v. true) t 0 (b .reshapes) (wf .targets)

@@ -62,7 +62,8 @@ module _ (P : Board → Type 0) where
       → (handled used : ℕ) (draws : List ℕ) (b : Board) → P b → P (inTurn turn l handled used draws b .board)
   unfolding inTurn Ends occ
   turns-end turn [] h handled used draws b p = p
-  turns-end turn (s ∷ l) h handled used draws b p = go (turn s draws b) (h s draws b (omega (arith, hit-same s)) p) (λ m u left c. turns-end turn l (λ t ds d o. h t ds d (omega arith)) m u left c)
+  turns-end turn (s ∷ l) h handled used draws b p =
+      go (turn s draws b) (h s draws b (omega (arith, hit-same s)) p) (λ m u left c. turns-end turn l (λ t ds d o. h t ds d (omega arith)) m u left c)
     where
       go : (t : Turn) → Ends P t → ((m u : ℕ) (left : List ℕ) (c : Board) → P c → P (inTurn turn l m u left c .board)) → OnBoard P (elim t [
         | finished n left c ↦ inTurn turn l (handled + n) (used + (length draws - length left)) left c
