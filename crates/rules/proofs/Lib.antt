@@ -6,9 +6,9 @@ pub mod Tests
 pub mod SeatsLaws
 pub mod Seats
 pub mod SeatsMoves
+pub mod SeatsRotations
 pub mod SeatsTurns
 pub mod SeatsFormed
-pub mod SeatsRotations
 pub mod SeatsPlaces
 pub mod SeatsReshapes
 pub mod SeatsFrame
