@@ -1,0 +1,155 @@
+-- Tests of lists, as counts.
+use mathlib.Core.Path.{_≡_, refl, ap, sym, _∙_}
+use mathlib.Core.List.{List, [], _∷_}
+use mathlib.Core.Option.{Option, none, some}
+use mathlib.Core.Bool.{Bool, true, false, cond, not, true≢false}
+use Prim.Native.Nat.{ℕ, _+_, _≤_}
+use native.Mathlib.Omega.{arith}
+use lib.Dec.{leb}
+use Rattle.rules.specs.Lists.{_and_, _or_, bitOf, any, has, distinct, insert, sort}
+use Rattle.rules.specs.Table.{Table, at, stands, holdsAt, keysWhere, isSome}
+use Rattle.rules.proofs.Counts.{Alike, same, apart, alike, hit, hit-same, hit-apart, hit-most, occ}
+use Rattle.rules.proofs.Tables.{From, tally, occ-keysWhere}
+use Rattle.rules.proofs.Tests.{and-parts, and-joins, or-left, or-right, of-not, not-of, le-of, of-le, lt-of-no, has-occ}
+
+-- what is never 1 or more is 0
+pub zero-unless : (n : ℕ) → (1 ≤ n → ⊥) → n ≡ 0
+zero-unless n h = go (alike n 0)
+  where
+    go : Alike n 0 → n ≡ 0
+    go (same p v) = p
+    go (apart p v) = absurd (h (omega arith))
+
+-- ---- a test is 1 or 0
+
+pub bit-yes : (c : Bool) → c ≡ true → bitOf c ≡ 1
+bit-yes c h = rw h
+
+pub bit-no : (c : Bool) → c ≡ false → bitOf c ≡ 0
+bit-no c h = rw h
+
+pub yes-bit : (c : Bool) → 1 ≤ bitOf c → c ≡ true
+yes-bit true h = refl
+yes-bit false h = absurd (omega arith)
+
+pub no-bit : (c : Bool) → bitOf c ≡ 0 → c ≡ false
+no-bit true h = absurd (omega arith)
+no-bit false h = refl
+
+pub bit-most : (c : Bool) → bitOf c ≤ 1
+bit-most true = omega arith
+bit-most false = omega arith
+
+pub and-most : (a c : Bool) → bitOf (a and c) ≤ bitOf a
+unfolding _and_
+and-most true c = bit-most c
+and-most false c = omega arith
+
+pub of-no : (c : Bool) → not c ≡ false → c ≡ true
+of-no true h = refl
+of-no false h = absurd (true≢false h)
+
+-- what stands at a key passes a test: its number is 1
+pub holds-bit : {A : Type 0} (f : A → Bool) (g : A → ℕ) → ((a : A) → bitOf (f a) ≡ g a) → (k : ℕ) (t : Table A) → bitOf (holdsAt k f t) ≡ tally g (at k t)
+unfolding holdsAt tally
+holds-bit {A} f g e k t = go (at k t)
+  where
+    go : (o : Option A) → bitOf (elim o [ none ↦ false | some v ↦ f v ]) ≡ tally g o
+    go none = refl
+    go (some v) = e v
+
+pub tally-le : {A : Type 0} (g k : A → ℕ) → ((a : A) → g a ≤ k a) → (o : Option A) → tally g o ≤ tally k o
+unfolding tally
+tally-le g k h none = omega arith
+tally-le g k h (some a) = h a
+
+-- where nothing stands, nothing is told
+pub none-told : {A : Type 0} (g : A → ℕ) (o : Option A) → tally (λ a. 1) o ≡ 0 → tally g o ≡ 0
+unfolding tally
+none-told g none h = refl
+none-told g (some a) h = absurd (omega arith)
+
+pub some-bit : {A : Type 0} (o : Option A) → bitOf (isSome o) ≡ tally (λ a. 1) o
+unfolding isSome tally
+some-bit none = refl
+some-bit (some v) = refl
+
+pub stands-bit : {A : Type 0} (k : ℕ) (t : Table A) → bitOf (stands k t) ≡ tally (λ a. 1) (at k t)
+unfolding stands
+stands-bit k t = some-bit (at k t)
+
+-- a key that is listed by a test: what stands there passes it
+pub listed : {A : Type 0} (f : A → Bool) (k : ℕ) (t : Table A) → From 0 t → 1 ≤ occ k (keysWhere f t) → (v : A) × (at k t ≡ some v) × (f v ≡ true)
+unfolding tally
+listed {A} f k t r h = go (at k t) refl (omega (arith, occ-keysWhere f k 0 t r))
+  where
+    go : (o : Option A) → at k t ≡ o → 1 ≤ tally (λ v. bitOf (f v)) o → (v : A) × (at k t ≡ some v) × (f v ≡ true)
+    go none e n = absurd (omega arith)
+    go (some v) e n = (v, e, yes-bit (f v) n)
+
+-- ---- a number is in a list
+
+pub in-of : (x : ℕ) (l : List ℕ) → has x l ≡ true → 1 ≤ occ x l
+in-of x l h = le-of _ _ (sym (has-occ x l) ∙ h)
+
+pub of-in : (x : ℕ) (l : List ℕ) → 1 ≤ occ x l → has x l ≡ true
+of-in x l h = has-occ x l ∙ of-le _ _ h
+
+pub out-of : (x : ℕ) (l : List ℕ) → has x l ≡ false → occ x l ≡ 0
+out-of x l h = omega (arith, lt-of-no 1 (occ x l) (sym (has-occ x l) ∙ h))
+
+pub of-out : (x : ℕ) (l : List ℕ) → occ x l ≡ 0 → has x l ≡ false
+of-out x l h = has-occ x l ∙ rw h
+
+-- some number of a list passes a test
+any-in : (f : ℕ → Bool) (l : List ℕ) (x : ℕ) → 1 ≤ occ x l → f x ≡ true → any f l ≡ true
+unfolding any occ
+any-in f [] x o h = absurd (omega arith)
+any-in f (y ∷ l) x o h = go (alike x y) (any-in f l x)
+  where
+    go : Alike x y → (1 ≤ occ x l → f x ≡ true → any f l ≡ true) → (f y or any f l) ≡ true
+    go (same p q) ih = or-left _ _ (rw (← p) h)
+    go (apart p q) ih = or-right _ _ (ih (omega (arith, hit-apart x y p)) h)
+
+-- none does
+pub none-in : (f : ℕ → Bool) (l : List ℕ) → any f l ≡ false → (x : ℕ) → 1 ≤ occ x l → f x ≡ false
+none-in f l h x o = go (f x) refl
+  where
+    go : (c : Bool) → f x ≡ c → c ≡ false
+    go true e = absurd (true≢false (sym (any-in f l x o e) ∙ h))
+    go false e = refl
+
+pub in-none : (f : ℕ → Bool) (l : List ℕ) → ((x : ℕ) → 1 ≤ occ x l → f x ≡ false) → any f l ≡ false
+unfolding any occ _or_
+in-none f [] h = refl
+in-none f (y ∷ l) h = rw (h y (omega (arith, hit-same y))) (in-none f l (λ x o. h x (omega arith)))
+
+-- distinct numbers stand once
+pub distinct-once : (l : List ℕ) → distinct l ≡ true → (x : ℕ) → occ x l ≤ 1
+unfolding distinct occ
+distinct-once [] h x = omega arith
+distinct-once (y ∷ l) h x = go (alike x y) (distinct-once l (and-parts _ _ h .1) x) (out-of y l (of-not _ (and-parts _ _ h .0)))
+  where
+    go : Alike x y → occ x l ≤ 1 → occ y l ≡ 0 → occ x (y ∷ l) ≤ 1
+    go (same p q) ih n = rw p (omega (arith, hit-most y y))
+    go (apart p q) ih n = omega (arith, hit-apart x y p)
+
+pub once-distinct : (l : List ℕ) → ((x : ℕ) → occ x l ≤ 1) → distinct l ≡ true
+unfolding distinct occ
+once-distinct [] h = refl
+once-distinct (y ∷ l) h = and-joins _ _ (not-of _ (of-out y l (omega (arith, h y, hit-same y)))) (once-distinct l (λ x. omega (arith, h x)))
+
+-- a sort neither loses nor makes nor doubles a number
+occ-insert : (x y : ℕ) (l : List ℕ) → occ x (insert y l) ≡ hit x y + occ x l
+unfolding insert occ
+occ-insert x y [] = refl
+occ-insert x y (z ∷ l) = go (leb y z) (occ-insert x y l)
+  where
+    go : (c : Bool) → occ x (insert y l) ≡ hit x y + occ x l → occ x (cond c (y ∷ z ∷ l) (z ∷ insert y l)) ≡ hit x y + occ x (z ∷ l)
+    go true h = refl
+    go false h = omega arith
+
+pub occ-sort : (x : ℕ) (l : List ℕ) → occ x (sort l) ≡ occ x l
+unfolding sort occ
+occ-sort x [] = refl
+occ-sort x (y ∷ l) = occ-insert x y (sort l) ∙ ap (λ n. hit x y + n) (occ-sort x l)
