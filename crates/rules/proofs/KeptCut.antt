@@ -23,13 +23,13 @@ use Rattle.rules.specs.Moves.{says, membersOf, place, join, putOn, forAl
 use Rattle.rules.specs.Cut.{recast, fits, cutFaults, settle, cohortFor, settleChild, cutSplitOf, cutSplit, cutSplits, others, rejoin, larger, cutMergeOf, cutMerge, cutMerges}
 use Rattle.rules.proofs.Counts.{Alike, same, apart, eqb-same, alike, eqb-apart, hit, hit-apart, occ, occ-nil, occ-append, occ-single}
 use Rattle.rules.proofs.Tables.{at-put}
-use Rattle.rules.proofs.Tests.{and-parts, and-joins, or-cases, all-parts, all-joins, le-of, lt-of-no, eq-of}
-use Rattle.rules.proofs.KeptLists.{by-cases, Ids, of-ids, Ids-none, Ids-join}
+use Rattle.rules.proofs.Tests.{of-no, by-cases, and-parts, and-joins, or-cases, all-parts, all-joins, le-of, lt-of-no, eq-of}
+use Rattle.rules.proofs.KeptLists.{Ids, of-ids, Ids-none, Ids-join}
 use Rattle.rules.proofs.KeptRotations.{Rota-dropRotations}
 use Rattle.rules.proofs.KeptTables.{length-replace, length-keysWhere, Rows, Rows-within, Rows-put, Rows-remove, holds-at, at-update, at-other, holds-same}
 use Rattle.rules.proofs.KeptBoard.{family, Fit, Good, fit-at, stamp, stamp-now}
 use Rattle.rules.proofs.KeptMoves.{Keeps, keeps-pooled, keeps-movedTo, keeps-keptOn, keeps-seatedFromWatch, good-place, machine-at, members-at, Opens, Joins, joins, good-putOn, Joins-putOn, members-putOn, elsewhere-putOn, forAll-keeps, forAll-all}
-use Rattle.rules.proofs.KeptTurns.{of-no, Finishes, checked-finishes, reshape-finishes, batch-keeps}
+use Rattle.rules.proofs.Turns.{Finishes, checked-finishes, reshape-finishes, batch-keeps}
 
 -- ---- the tables at a cut
 
@@ -207,7 +207,7 @@ cut-split-finishes t r draws b f h =
 
 pub good-cutSplits : (b : Board) → Good b → Good (cutSplits b .board)
 unfolding cutSplits cutSplit
-good-cutSplits b h = batch-keeps Good cutSplit _ (λ t o draws c g. reshape-finishes Good t _ draws c g (λ r e. cut-split-finishes t r draws c (fit-at g t r e) g)) [] b h
+good-cutSplits b h = batch-keeps Good cutSplit _ [] b (λ w t o draws c g. reshape-finishes Good t _ draws c g (λ r e. cut-split-finishes t r draws c (fit-at g t r e) g)) h
 
 -- ---- CUT MERGES
 
@@ -254,4 +254,4 @@ cut-merge-finishes t r draws b f h =
 
 pub good-cutMerges : (b : Board) → Good b → Good (cutMerges b .board)
 unfolding cutMerges cutMerge
-good-cutMerges b h = batch-keeps Good cutMerge _ (λ t o draws c g. reshape-finishes Good t _ draws c g (λ r e. cut-merge-finishes t r draws c (fit-at g t r e) g)) [] b h
+good-cutMerges b h = batch-keeps Good cutMerge _ [] b (λ w t o draws c g. reshape-finishes Good t _ draws c g (λ r e. cut-merge-finishes t r draws c (fit-at g t r e) g)) h

@@ -10,12 +10,7 @@ use Rattle.types.specs.Numbers.{Id}
 use Rattle.rules.specs.Lists.{every, keep, has, distinct, strike, insert, sort}
 use Rattle.rules.specs.WellFormed.{isWord, goodIds}
 use Rattle.rules.proofs.Counts.{Alike, same, apart, alike, hit, hit-same, hit-apart, occ, occ-nil, occ-append, occ-single}
-use Rattle.rules.proofs.Tests.{and-parts, and-joins, all-parts, all-joins, of-not, not-of, le-of, of-le, lt-of-no, every-parts, every-join, every-has, has-every, has-occ}
-
--- what holds of both branches, each where it is taken
-pub by-cases : {A : Type 0} (P : A → Type 0) (c : Bool) (x y : A) → (c ≡ true → P x) → (c ≡ false → P y) → P (cond c x y)
-by-cases P true x y p q = p refl
-by-cases P false x y p q = q refl
+use Rattle.rules.proofs.Tests.{by-cases, and-parts, and-joins, all-parts, all-joins, of-not, not-of, le-of, of-le, lt-of-no, every-parts, every-join, every-has, has-every, has-occ}
 
 -- ---- parts of a list: some of it, in its order
 

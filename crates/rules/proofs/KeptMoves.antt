@@ -19,8 +19,8 @@ use Rattle.rules.specs.WellFormed.{isShard, isWord, isStamp, goodOption,
 use Rattle.rules.specs.Moves.{membersOf, place, join, quit, putOn, takeOff, forAll, pooledFrom, mayJoin, entrantsOn, dropRotations, abortRotations, withSeats, isKind, giveUpSeat, markedBoundary}
 use Rattle.rules.proofs.Counts.{eqb-same, eqb-apart, hit-same, occ, occ-append, occ-single}
 use Rattle.rules.proofs.Tables.{at-put}
-use Rattle.rules.proofs.Tests.{and-parts, and-joins, or-cases, all-parts, all-joins, of-not, le-of, lt-of-no, every-has, has-occ}
-use Rattle.rules.proofs.KeptLists.{by-cases, Ids, ids-of, of-ids, Ids-none, Ids-strike, Ids-join}
+use Rattle.rules.proofs.Tests.{by-cases, and-parts, and-joins, or-cases, all-parts, all-joins, of-not, le-of, lt-of-no, every-has, has-occ}
+use Rattle.rules.proofs.KeptLists.{Ids, ids-of, of-ids, Ids-none, Ids-strike, Ids-join}
 use Rattle.rules.proofs.KeptRotations.{Rota-dropRotations}
 use Rattle.rules.proofs.KeptTables.{length-put, length-replace, Rows-within, Rows-put, Rows-remove, Rows-update}
 use Rattle.rules.proofs.KeptBoard.{Fit, fit-of, of-fit, Fit-seats, Good, on-machines, on-committees, on-bounds, on-rotations, on-reshapes}

@@ -20,13 +20,13 @@ use Rattle.rules.specs.Moves.{poolOf, place, join, putOn, mayJoin, hasPa
 use Rattle.rules.specs.Turns.{refused}
 use Rattle.rules.specs.Places.{nextEpoch, tick, isScheduledSplit, leaveSeat, leaveFromSeat, leaveFrom, leaveTurn, leave, mayRotate, victimFit, newRotation, rotateTurn, rotate, hasSeatsFree, isRotation, retire, close, resolved, resolve, isDue, timeOut}
 use Rattle.rules.proofs.Counts.{Alike, same, apart, alike, occ, occ-nil}
-use Rattle.rules.proofs.Tests.{and-parts, and-joins, all-parts, all-joins, of-not, of-le, lt-of-no}
-use Rattle.rules.proofs.KeptLists.{by-cases, Ids, Ids-none, Ids-join}
+use Rattle.rules.proofs.Tests.{of-no, by-cases, and-parts, and-joins, all-parts, all-joins, of-not, of-le, lt-of-no}
+use Rattle.rules.proofs.KeptLists.{Ids, Ids-none, Ids-join}
 use Rattle.rules.proofs.KeptRotations.{Rota-dropFirst, Rota-open}
 use Rattle.rules.proofs.KeptTables.{Rows-each, at-keysWhere, at-holds}
 use Rattle.rules.proofs.KeptBoard.{limits, Good, on-settings, on-machines, on-rotations, stamp-now}
 use Rattle.rules.proofs.KeptMoves.{keeps-short, keeps-madeReady, keeps-drawnTo, good-place, machine-at, joins-of, good-putOn, good-takeOff, good-release, forAll-keeps, good-giveUpSeat}
-use Rattle.rules.proofs.KeptTurns.{of-no, Finishes, checked-finishes, step-keeps, poolDraw-finishes}
+use Rattle.rules.proofs.Turns.{Finishes, checked-finishes, step-keeps, poolDraw-finishes}
 
 -- ---- TICK
 

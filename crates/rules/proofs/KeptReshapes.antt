@@ -18,12 +18,12 @@ use Rattle.rules.specs.WellFormed.{isTarget, isWord, goodOption, goodSea
 use Rattle.rules.specs.Moves.{poolOf, membersOf, place, join, putOn, forAll, withSeats, isKind, newSeat, watch}
 use Rattle.rules.specs.Reshapes.{halfUp, newReshape, admit, admissionFaults, admitSplit, seatedMembers, keepersOf, seatAll, drawKeepers, admitMerge, readySeat, markSeatReady, hasSide, quieted, markQuiet, awaitsCohort, watchAll, cohortTurn, drawCohort, cohortOf, released, lapse}
 use Rattle.rules.proofs.Counts.{eqb-same, hit-same, occ, occ-append, occ-take}
-use Rattle.rules.proofs.Tests.{and-parts, and-joins, or-cases, or-left, or-right, of-not, lt-of-no, eq-of}
+use Rattle.rules.proofs.Tests.{of-no, and-parts, and-joins, or-cases, or-left, or-right, of-not, lt-of-no, eq-of}
 use Rattle.rules.proofs.KeptLists.{Part, part-keep, part-occ, occ-sort, Ids, Ids-none}
 use Rattle.rules.proofs.KeptTables.{length-put, Rows, Rows-none, Rows-within, Rows-put, Rows-update, once-keysWhere, holds-at, at-update}
 use Rattle.rules.proofs.KeptBoard.{limits, family, Fit, of-fit, Fit-seats, Fit-quiet, Good, on-reshapes, stamp-now}
 use Rattle.rules.proofs.KeptMoves.{Keeps, keeps-setToWatch, members-good, Words, Joins, joins-of, Joins-reshapes, good-putOn, Joins-putOn, good-release, forAll-keeps, forAll-counts, forAll-all, good-reshape}
-use Rattle.rules.proofs.KeptTurns.{of-no, Draws, andThen-draws, Mixed, shuffle-draws, Finishes, checked-finishes, drawn-finishes, step-keeps}
+use Rattle.rules.proofs.Turns.{Draws, andThen-draws, Mixed, shuffle-draws, Finishes, checked-finishes, drawn-finishes, step-keeps}
 use Rattle.rules.proofs.KeptPlaces.{pool-word}
 
 -- ---- ADMISSIONS

@@ -13,8 +13,8 @@ use Rattle.rules.specs.Board.{Rotation, mostRotations}
 use Rattle.rules.specs.WellFormed.{rising, goodList, goodRotation, rotationBefore}
 use Rattle.rules.specs.Moves.{hasParty, isOn, openRotation, dropFirst, dropRotations}
 use Rattle.rules.proofs.Counts.{Alike, same, apart, alike}
-use Rattle.rules.proofs.Tests.{and-parts, and-joins, or-cases, or-left, or-right, all-parts, all-joins, le-of, of-le, lt-of-no, eq-of, of-eq, every-parts, every-join, every-none, every-weaken}
-use Rattle.rules.proofs.KeptLists.{by-cases, Part, end, kept, gone, part-all, part-keep, part-length, part-every}
+use Rattle.rules.proofs.Tests.{by-cases, and-parts, and-joins, or-cases, or-left, or-right, all-parts, all-joins, le-of, of-le, lt-of-no, eq-of, of-eq, every-parts, every-join, every-none, every-weaken}
+use Rattle.rules.proofs.KeptLists.{Part, end, kept, gone, part-all, part-keep, part-length, part-every}
 
 record Before (q r : Rotation) : Type 0 where
   shard : q .shard ≤ r .shard

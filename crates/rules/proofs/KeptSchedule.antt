@@ -19,12 +19,12 @@ use Rattle.types.specs.declared.Answer.the-variants.{NoBoundary}
 use Rattle.rules.specs.Reshapes.{halfUp}
 use Rattle.rules.specs.Schedule.{unscheduled, isQuiet, scheduled, drainOrSchedule, seatedThere, splitGate, passGate, halve, scheduleSplit, scheduleSplits, mergeGate, scheduleMerge, scheduleMerges}
 use Rattle.rules.proofs.Counts.{occ, occ-take}
-use Rattle.rules.proofs.Tests.{and-parts, or-cases, or-left, or-right, of-not, not-of, le-of, lt-of-no, has-occ}
-use Rattle.rules.proofs.KeptLists.{by-cases, part-keep, part-length, part-occ, occ-drop, occ-sort, length-sort, Ids, Ids-none, Ids-part}
+use Rattle.rules.proofs.Tests.{by-cases, and-parts, or-cases, or-left, or-right, of-not, not-of, le-of, lt-of-no, has-occ}
+use Rattle.rules.proofs.KeptLists.{part-keep, part-length, part-occ, occ-drop, occ-sort, length-sort, Ids, Ids-none, Ids-part}
 use Rattle.rules.proofs.KeptTables.{Rows, Rows-update, at-keysWhere}
 use Rattle.rules.proofs.KeptBoard.{limits, Fit-drainBy, Fit-terminal, Good, fit-at, stamp}
 use Rattle.rules.proofs.KeptMoves.{members-good, forAll-keeps, good-abort, good-reshape, good-marked}
-use Rattle.rules.proofs.KeptTurns.{Mixed, shuffle-draws, Finishes, checked-finishes, drawn-finishes, reshape-finishes, batch-keeps}
+use Rattle.rules.proofs.Turns.{Mixed, shuffle-draws, Finishes, checked-finishes, drawn-finishes, reshape-finishes, batch-keeps}
 
 -- ---- a terminal, or a time to drain by
 
@@ -65,7 +65,7 @@ merge-finishes t draws b h =
 
 pub good-scheduleMerges : (b : Board) → Good b → Good (scheduleMerges b .board)
 unfolding scheduleMerges
-good-scheduleMerges b h = batch-keeps Good scheduleMerge _ (λ t o. merge-finishes t) [] b h
+good-scheduleMerges b h = batch-keeps Good scheduleMerge _ [] b (λ w t o. merge-finishes t) h
 
 -- ---- SCHEDULE SPLITS
 
@@ -167,4 +167,4 @@ module _ (shards : List Shard) where
 
 pub good-scheduleSplits : (draws : List ℕ) (b : Board) → Good b → Good (scheduleSplits draws b .board)
 unfolding scheduleSplits
-good-scheduleSplits draws b h = batch-keeps (Splits (unscheduled split b)) scheduleSplit _ (split-finishes (unscheduled split b)) draws b (all-splits b h) .good
+good-scheduleSplits draws b h = batch-keeps (Splits (unscheduled split b)) scheduleSplit _ draws b (λ w. split-finishes (unscheduled split b)) (all-splits b h) .good

@@ -13,8 +13,8 @@ use Rattle.rules.specs.Table.{Entry, entry, Table, at, holdsAt, put, rem
 use Rattle.rules.specs.WellFormed.{goodList, goodTable}
 use Rattle.rules.proofs.Counts.{Alike, same, apart, eqb-same, alike, eqb-apart, occ}
 use Rattle.rules.proofs.Tables.{From, at-each, at-put, at-remove, From-each, From-remove, From-put, at-below, tally, occ-keysWhere}
-use Rattle.rules.proofs.KeptLists.{by-cases, Part, end, kept, gone, part-length}
-use Rattle.rules.proofs.Tests.{all-parts, all-joins, le-of, of-le, every-at, at-every, from-rising, rising-table}
+use Rattle.rules.proofs.KeptLists.{Part, end, kept, gone, part-length}
+use Rattle.rules.proofs.Tests.{by-cases, all-parts, all-joins, le-of, of-le, every-at, at-every, from-rising, rising-table}
 
 -- ---- lengths
 

@@ -17,7 +17,6 @@ pub mod KeptRotations
 pub mod KeptTables
 pub mod KeptBoard
 pub mod KeptMoves
-pub mod KeptTurns
 pub mod KeptPlaces
 pub mod KeptReshapes
 pub mod KeptSchedule

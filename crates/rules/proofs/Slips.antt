@@ -27,9 +27,10 @@ use Rattle.rules.specs.Reshapes.{halfUp}
 use Rattle.rules.specs.Schedule as schedule
 use Rattle.rules.specs.Cut as cut
 use Rattle.rules.proofs.Counts.{Alike, same, apart, alike, eqb-apart, eqb-same}
-use Rattle.rules.proofs.Tables.{at-each, at-update-apart}
-use Rattle.rules.proofs.Tests.{le-of, and-parts}
-use Rattle.rules.proofs.Turns.{by-option, cond-either, cond-told, Reached, begun, turned, one-board, checked-finished, Came, drawn-finished, batch-keeps, for-all-keeps}
+use Rattle.rules.proofs.Tables.{at-each}
+use Rattle.rules.proofs.KeptTables.{at-other}
+use Rattle.rules.proofs.Tests.{by-cases, le-of, and-parts}
+use Rattle.rules.proofs.Turns.{by-option, Reached, begun, turned, forAll-keeps, Finishes, checked-finishes, drawn-told, reshape-finishes, batch-keeps, finishes-told, finishes-at, finishes-map}
 
 -- ---- 'restamping members at a cut'
 
@@ -72,33 +73,34 @@ module _ (x : numbers.Id) (r : Bool) (w : Epoch) where
       sits q = update-carries y _ (record { to = λ s. s; moved = λ s. refl }) (b .machines) h
 
       unseated : (p : Place) → at y (b .machines) ≡ some p → at y seats ≡ none → Goal
-      unseated p e f = rw (e, f, cut.settle) (cond-either Board-carries (isSeatedOn t p) _ _ moves h)
+      unseated p e f = rw (e, f, cut.settle) (by-cases Board-carries (isSeatedOn t p) _ _ (λ c. moves) (λ c. h))
 
       seated : (p : Place) → at y (b .machines) ≡ some p → (q : Seat) → at y seats ≡ some q → Goal
-      seated p e q f = rw (e, f, cut.settle) (cond-either Board-carries (isSeatedOn t p) _ _ moves (cond-either Board-carries (isObserving p) _ _ (sits q) h))
+      seated p e q f = rw (e, f, cut.settle) (by-cases Board-carries (isSeatedOn t p) _ _ (λ c. moves) (λ c. by-cases Board-carries (isObserving p) _ _ (λ d. sits q) (λ d. h)))
 
   recast-carries : (k : Kind) (t : numbers.Shard) (height : numbers.Height) (b : Board) → Carries x r w (b .machines) → Carries x r w (cut.recast k t height b .machines)
   unfolding cut.recast
   recast-carries k t height b h =
-      for-all-keeps (λ c. Carries x r w (c .machines)) _ (λ s c g. g) (newShards k t) _
-      (for-all-keeps (λ c. Carries x r w (c .machines)) cut.endShard (λ s c g. g) (oldShards k t) _ h)
+      forAll-keeps (λ c. Carries x r w (c .machines)) _ (λ s c g. g) (newShards k t) _
+      (forAll-keeps (λ c. Carries x r w (c .machines)) cut.endShard (λ s c g. g) (oldShards k t) _ h)
 
   child-carries : (t c : numbers.Shard) (half : List numbers.Id) (seats : Table Seat) (b : Board) → Carries x r w (b .machines) → Carries x r w (cut.settleChild t c half seats b .machines)
   unfolding cut.settleChild
-  child-carries t c half seats b h = for-all-keeps (λ d. Carries x r w (d .machines)) (cut.settle t c seats) (λ y d g. settle-carries t c seats y d g) _ b h
+  child-carries t c half seats b h = forAll-keeps (λ d. Carries x r w (d .machines)) (cut.settle t c seats) (λ y d g. settle-carries t c seats y d g) _ b h
 
-  cut-split-carries : (t : numbers.Shard) (draws : List ℕ) (b : Board) (n : ℕ) (left : List ℕ) (c : Board) → cut.cutSplit t draws b ≡ finished n left c → Carries x r w (b .machines) → Carries x r w (c .machines)
+  cut-split-carries : (t : numbers.Shard) (draws : List ℕ) (b : Board) → Carries x r w (b .machines) → Finishes (λ c. Carries x r w (c .machines)) (cut.cutSplit t draws b)
   unfolding cut.cutSplit cut.cutSplitOf
-  cut-split-carries t draws b n left c e h =
-      by-option (Carries x r w (c .machines)) (at t (b .reshapes))
-      (λ f. one-board (λ d. Carries x r w (d .machines)) _ n _ left b c (rw (f, cut.cutSplit) at e) h)
-      (λ q f. one-board (λ d. Carries x r w (d .machines)) _ n _ left _ c (checked-finished _ _ n left c (rw (f, cut.cutSplit) at e))
-      (child-carries t (rightOf t) (q .right) (q .seats) _ (child-carries t (leftOf t) (q .left) (q .seats) _ (recast-carries split t _ b h))))
+  cut-split-carries t draws b h =
+      reshape-finishes Kept t _ draws b h (λ q e. checked-finishes Kept _ _ (λ p.
+      child-carries t (rightOf t) (q .right) (q .seats) _ (child-carries t (leftOf t) (q .left) (q .seats) _ (recast-carries split t _ b h))))
+    where
+      Kept : Board → Type 0
+      Kept c = Carries x r w (c .machines)
 
 -- a machine that is seated keeps its ready and its stamp through every cut of splits, those on a target with the others
 pub cut-keeps-stamps : (x : numbers.Id) (s : ShardId) (r : Bool) (w : Epoch) (b : Board) → at x (b .machines) ≡ some (Seated s r w) → Carries x r w (cut.cutSplits b .board .machines)
 unfolding cut.cutSplits
-cut-keeps-stamps x s r w b e = batch-keeps cut.cutSplit (λ c. Carries x r w (c .machines)) (λ t draws c n left d f h. cut-split-carries x r w t draws c n left d f h) (cut.due split b) [] b (record { shard = s; there = e })
+cut-keeps-stamps x s r w b e = batch-keeps (λ c. Carries x r w (c .machines)) cut.cutSplit (cut.due split b) [] b (λ g t o draws c h. cut-split-carries x r w t draws c h) (record { shard = s; there = e })
 
 -- ---- 'one quorum test for both halves'
 
@@ -118,54 +120,49 @@ pub record Stamped (t : numbers.Shard) (draws : List ℕ) (b c : Board) : Type 0
   pub change : Reshape → Reshape
   pub changed : c .reshapes ≡ update t change (b .reshapes)
 
-drained-reshapes : (t : numbers.Shard) (r : Reshape) (lefts rights : List numbers.Id) (draws : List ℕ) (b : Board) (n : ℕ) (left : List ℕ) (c : Board)
-    → schedule.drainOrSchedule t r lefts rights draws b ≡ finished n left c → (c .reshapes ≡ b .reshapes) ⊎ ((f : Reshape → Reshape) × (c .reshapes ≡ update t f (b .reshapes)))
+-- the reshapes of b, or those with a change at the target
+abbrev Changed : numbers.Shard → Board → Board → Type 0
+Changed t b c = (c .reshapes ≡ b .reshapes) ⊎ ((f : Reshape → Reshape) × (c .reshapes ≡ update t f (b .reshapes)))
+
+drained-reshapes : (t : numbers.Shard) (r : Reshape) (lefts rights : List numbers.Id) (draws : List ℕ) (b : Board) → Finishes (Changed t b) (schedule.drainOrSchedule t r lefts rights draws b)
 unfolding schedule.drainOrSchedule schedule.scheduled
-drained-reshapes t r lefts rights draws b n left c e = by-option Goal (r .drainBy) first (λ d f. cond-told (λ u. u ≡ finished n left c → Goal) (schedule.isQuiet r) _ _ (λ q. sets _) (λ q. waits) (rw (f, schedule.drainOrSchedule) at e))
-  where
-    Goal : Type 0
-    Goal = (c .reshapes ≡ b .reshapes) ⊎ ((f : Reshape → Reshape) × (c .reshapes ≡ update t f (b .reshapes)))
-
-    Same : Board → Type 0
-    Same d = (d .reshapes ≡ b .reshapes) ⊎ ((f : Reshape → Reshape) × (d .reshapes ≡ update t f (b .reshapes)))
-
-    first : r .drainBy ≡ none → Goal
-    first f = one-board Same _ n _ left _ c (rw (f, schedule.drainOrSchedule) at e) (inr (_, refl))
-
-    waits : finished 0 draws b ≡ finished n left c → Goal
-    waits f = one-board Same _ n _ left b c f (inl refl)
-
-    sets : (fs : List Fault) → checked fs (finished 1 draws (schedule.scheduled t r lefts rights b)) ≡ finished n left c → Goal
-    sets fs f = one-board Same _ n _ left _ c (checked-finished _ _ n left c f) (for-all-keeps Same _ (λ s d g. g) (oldShards (r .kind) t) _ (inr (_, refl)))
+drained-reshapes t r lefts rights draws b =
+    by-option (Finishes (Changed t b) (schedule.drainOrSchedule t r lefts rights draws b)) (r .drainBy)
+    (λ e. rw (e, schedule.drainOrSchedule) (inr (_, refl)))
+    (λ d e. rw (e, schedule.drainOrSchedule) (by-cases (Finishes (Changed t b)) (schedule.isQuiet r) _ _
+    (λ q. checked-finishes (Changed t b) _ _ (λ p. forAll-keeps (Changed t b) _ (λ s c g. g) (oldShards (r .kind) t) _ (inr (_, refl))))
+    (λ q. inl refl)))
 
 -- aborting rotations changes no reshape
 abort-reshapes : (t : numbers.Shard) (b : Board) → abortRotations t b .reshapes ≡ b .reshapes
 unfolding abortRotations takeOff quit place
-abort-reshapes t b = for-all-keeps (λ d. d .reshapes ≡ b .reshapes) _ (λ x d g. g) _ b refl
+abort-reshapes t b = forAll-keeps (λ d. d .reshapes ≡ b .reshapes) _ (λ x d g. g) _ b refl
 
-stamped-turn : (t : numbers.Shard) (draws : List ℕ) (b : Board) (n : ℕ) (left : List ℕ) (c : Board)
-    → schedule.halve t draws b ≡ finished n left c → (c .reshapes ≡ b .reshapes) ⊎ Stamped t draws b c
+stamped-turn : (t : numbers.Shard) (draws : List ℕ) (b : Board) → Finishes (λ c. (c .reshapes ≡ b .reshapes) ⊎ Stamped t draws b c) (schedule.halve t draws b)
 unfolding schedule.halve schedule.passGate schedule.splitGate
-stamped-turn t draws b n left c e = by-option Goal (at t (b .reshapes)) (λ f. same-board (rw (f, schedule.passGate) at (came .from))) present
+stamped-turn t draws b = drawn-told Told (shuffle (schedule.seatedThere t b) draws) _ (λ ids rest e.
+    reshape-finishes Told t _ rest b (inl refl) (λ r f.
+    by-cases (Finishes Told) (schedule.splitGate t (lefts ids) (rights ids) r b) _ _
+    (λ g. finishes-map (Changed t b) Told (passes ids rest e r f g) (schedule.drainOrSchedule t r (lefts ids) (rights ids) rest b) (drained-reshapes t r (lefts ids) (rights ids) rest b))
+    (λ g. inl refl)))
   where
-    Goal : Type 0
-    Goal = (c .reshapes ≡ b .reshapes) ⊎ Stamped t draws b c
+    Told : Board → Type 0
+    Told c = (c .reshapes ≡ b .reshapes) ⊎ Stamped t draws b c
 
-    came : Came (shuffle (schedule.seatedThere t b) draws) (λ ids rest. schedule.passGate t (take (halfUp (length ids)) ids) (drop (halfUp (length ids)) ids) rest b) n left c
-    came = drawn-finished _ _ n left c e
+    lefts : List numbers.Id → List numbers.Id
+    lefts ids = take (halfUp (length ids)) ids
 
-    -- nothing done
-    same-board : finished 0 (came .rest) b ≡ finished n left c → Goal
-    same-board f = one-board (λ d. (d .reshapes ≡ b .reshapes) ⊎ Stamped t draws b d) _ n _ left b c f (inl refl)
+    rights : List numbers.Id → List numbers.Id
+    rights ids = drop (halfUp (length ids)) ids
 
-    passes : (r : Reshape) → at t (b .reshapes) ≡ some r → schedule.splitGate t (take (halfUp (length (came .value))) (came .value)) (drop (halfUp (length (came .value))) (came .value)) r b ≡ true
-        → (c .reshapes ≡ b .reshapes) ⊎ ((f : Reshape → Reshape) × (c .reshapes ≡ update t f (b .reshapes))) → Goal
-    passes r f g (inl u) = inl u
-    passes r f g (inr (change, changed)) = inr (record {
+    passes : (ids : List numbers.Id) (rest : List ℕ) → shuffle (schedule.seatedThere t b) draws ≡ drew ids rest → (r : Reshape) → at t (b .reshapes) ≡ some r
+        → schedule.splitGate t (lefts ids) (rights ids) r b ≡ true → (c : Board) → Changed t b c → Told c
+    passes ids rest e r f g c (inl u) = inl u
+    passes ids rest e r f g c (inr (change, changed)) = inr (record {
       reach = record {
-        ids = came .value;
-        rest = came .rest;
-        halved = came .drew-it;
+        ids = ids;
+        rest = rest;
+        halved = e;
         reshape = r;
         stands = f;
         left = le-of _ _ (and-parts _ _ g .0);
@@ -174,13 +171,6 @@ stamped-turn t draws b n left c e = by-option Goal (at t (b .reshapes)) (λ f. s
       change = change;
       changed = changed;
     })
-
-    present : (r : Reshape) → at t (b .reshapes) ≡ some r → Goal
-    present r f =
-        cond-told (λ u. u ≡ finished n left c → Goal) (schedule.splitGate t _ _ r b) _ _
-        (λ g h. passes r f g (drained-reshapes t r _ _ _ b n left c h))
-        (λ g. same-board)
-        (rw (f, schedule.passGate) at (came .from))
 
 -- the split's turn, on a board that earlier turns of the call came to, finds both halves at quorum
 pub record Gated (t : numbers.Shard) (b : Board) : Type 0 where
@@ -192,7 +182,7 @@ pub record Gated (t : numbers.Shard) (b : Board) : Type 0 where
 -- a split is stamped or scheduled only where each half by itself, with its child's ready seats, reaches quorum
 pub stamped-at-quorum : (draws : List ℕ) (b : Board) (t : numbers.Shard) → (at t (schedule.scheduleSplits draws b .board .reshapes) ≡ at t (b .reshapes)) ⊎ Gated t b
 unfolding schedule.scheduleSplits schedule.scheduleSplit
-stamped-at-quorum draws b t = batch-keeps schedule.scheduleSplit Held keeps (schedule.unscheduled split b) draws b (begun, inl refl) .1
+stamped-at-quorum draws b t = batch-keeps Held schedule.scheduleSplit (schedule.unscheduled split b) draws b (λ w s o ds d h. finishes-told Held _ (keeps s ds d h)) (begun, inl refl) .1
   where
     Held : Board → Type 0
     Held c = Reached schedule.scheduleSplit b c × ((at t (c .reshapes) ≡ at t (b .reshapes)) ⊎ Gated t b)
@@ -201,11 +191,11 @@ stamped-at-quorum draws b t = batch-keeps schedule.scheduleSplit Held keeps (sch
         → at t (d .reshapes) ≡ at t (b .reshapes) → (at t (c .reshapes) ≡ at t (b .reshapes)) ⊎ Gated t b
     turn s ds d c g a (inl e) h = inl (ap (at t) (e ∙ abort-reshapes s d) ∙ h)
     turn s ds d c g (same p q) (inr m) h = inr (record { board = d; draws = ds; reached = g; reach = rw p (m .reach) })
-    turn s ds d c g (apart p q) (inr m) h = inl (ap (at t) (m .changed) ∙ at-update-apart t s (m .change) _ p ∙ ap (at t) (abort-reshapes s d) ∙ h)
+    turn s ds d c g (apart p q) (inr m) h = inl (ap (at t) (m .changed) ∙ at-other t s (m .change) _ p ∙ ap (at t) (abort-reshapes s d) ∙ h)
 
-    keeps : (s : numbers.Shard) (ds : List ℕ) (d : Board) (n : ℕ) (left : List ℕ) (c : Board) → schedule.scheduleSplit s ds d ≡ finished n left c → Held d → Held c
-    keeps s ds d n left c e (g, inr h) = (turned s ds left n g e, inr h)
-    keeps s ds d n left c e (g, inl h) = (turned s ds left n g e, turn s ds d c g (alike t s) (stamped-turn s ds (abortRotations s d) n left c e) h)
+    keeps : (s : numbers.Shard) (ds : List ℕ) (d : Board) → Held d → (n : ℕ) (left : List ℕ) (c : Board) → schedule.scheduleSplit s ds d ≡ finished n left c → Held c
+    keeps s ds d (g, inr h) n left c e = (turned s ds left n g e, inr h)
+    keeps s ds d (g, inl h) n left c e = (turned s ds left n g e, turn s ds d c g (alike t s) (finishes-at _ (schedule.scheduleSplit s ds d) n left c (stamped-turn s ds (abortRotations s d)) e) h)
 
 -- ---- 'filling a place after a rotation party leaves'
 
@@ -221,5 +211,5 @@ unfolding leave alone checked leaveTurn leaveFrom leaveFromSeat leaveSeat giveUp
 party-leaves x draws b s r w e p = go (wellFormed b) refl
   where
     go : (c : Bool) → wellFormed b ≡ c → Unfilled x b (leave x draws b)
-    go true f = rw (f, e, p, leaveTurn) (record { used = omega arith; handled = refl; others = λ y n. at-update-apart y x short (b .machines) n })
+    go true f = rw (f, e, p, leaveTurn) (record { used = omega arith; handled = refl; others = λ y n. at-other y x short (b .machines) n })
     go false f = rw f (record { used = refl; handled = refl; others = λ y n. refl })

@@ -214,13 +214,3 @@ module _ {A : Type 0} where
       go : (c : Bool) → tally (λ a. 1) (at y t) ≤ tally (λ a. 1) (cond c (some v) (at y t))
       go true = known-most (at y t)
       go false = omega arith
-
--- a value at another key stays
-module _ {A : Type 0} where
-  pub at-update-apart : (k j : ℕ) (f : A → A) (t : Table A) → k ≢ j → at k (update j f t) ≡ at k t
-  unfolding update
-  at-update-apart k j f t n = at-each (λ i v. cond (eqb i j) (f v) v) k t ∙ go (at k t)
-    where
-      go : (o : Option A) → Option·map (λ v. cond (eqb k j) (f v) v) o ≡ o
-      go none = refl
-      go (some v) = rw (eqb-apart k j n)

@@ -58,8 +58,18 @@ pub of-not : (c : Bool) → not c ≡ true → c ≡ false
 of-not true h = absurd (false≢true h)
 of-not false h = refl
 
+-- a check that did not fail
+pub of-no : (c : Bool) → not c ≡ false → c ≡ true
+of-no true h = refl
+of-no false h = absurd (true≢false h)
+
 pub not-of : (c : Bool) → c ≡ false → not c ≡ true
 not-of c h = rw h
+
+-- what holds of both branches, each where it is taken
+pub by-cases : {A : Type 0} (P : A → Type 0) (c : Bool) (x y : A) → (c ≡ true → P x) → (c ≡ false → P y) → P (cond c x y)
+by-cases P true x y p q = p refl
+by-cases P false x y p q = q refl
 
 -- a value that is given under a test: the test says yes, and the value is that one
 pub given-if : {A : Type 0} (c : Bool) (x y : A) → cond c (some x) none ≡ some y → (c ≡ true) × (x ≡ y)
