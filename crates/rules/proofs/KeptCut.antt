@@ -28,8 +28,8 @@ use Rattle.rules.proofs.KeptLists.{Ids, of-ids, Ids-none, Ids-join}
 use Rattle.rules.proofs.KeptRotations.{Rota-dropRotations}
 use Rattle.rules.proofs.KeptTables.{length-replace, length-keysWhere, Rows, Rows-within, Rows-put, Rows-remove, holds-at, at-update, at-other, holds-same}
 use Rattle.rules.proofs.KeptBoard.{family, Fit, Good, fit-at, stamp, stamp-now}
-use Rattle.rules.proofs.KeptMoves.{Keeps, keeps-pooled, keeps-movedTo, keeps-keptOn, keeps-seatedFromWatch, good-place, machine-at, members-at, Opens, Joins, joins, good-putOn, Joins-putOn, members-putOn, elsewhere-putOn, forAll-keeps, forAll-all}
-use Rattle.rules.proofs.Turns.{Finishes, checked-finishes, reshape-finishes, batch-keeps}
+use Rattle.rules.proofs.KeptMoves.{Keeps, keeps-pooled, keeps-movedTo, keeps-keptOn, keeps-seatedFromWatch, good-place, machine-at, members-at, Opens, Joins, joins, good-putOn, Joins-putOn, members-putOn, elsewhere-putOn, forAll-all}
+use Rattle.rules.proofs.Turns.{forAll-keeps, Finishes, checked-finishes, reshape-finishes, batch-keeps}
 
 -- ---- the tables at a cut
 

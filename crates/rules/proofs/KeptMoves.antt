@@ -20,6 +20,7 @@ use Rattle.rules.specs.Moves.{membersOf, place, join, quit, putOn, takeO
 use Rattle.rules.proofs.Counts.{eqb-same, eqb-apart, hit-same, occ, occ-append, occ-single}
 use Rattle.rules.proofs.Tables.{at-put}
 use Rattle.rules.proofs.Tests.{by-cases, and-parts, and-joins, or-cases, all-parts, all-joins, of-not, le-of, lt-of-no, every-has, has-occ}
+use Rattle.rules.proofs.Turns.{forAll-keeps}
 use Rattle.rules.proofs.KeptLists.{Ids, ids-of, of-ids, Ids-none, Ids-strike, Ids-join}
 use Rattle.rules.proofs.KeptRotations.{Rota-dropRotations}
 use Rattle.rules.proofs.KeptTables.{length-put, length-replace, Rows-within, Rows-put, Rows-remove, Rows-update}
@@ -220,11 +221,6 @@ pub good-release : {b : Board} (s : Shard) (there : Place → Bool) (x : Id) →
 good-release s there = good-takeOff s (pooledFrom there) (keeps-pooledFrom there)
 
 -- ---- one move for each of a list
-
-pub forAll-keeps : {A : Type 0} (P : Board → Type 0) (move : A → Board → Board) → ((x : A) (b : Board) → P b → P (move x b)) → (l : List A) (b : Board) → P b → P (forAll move l b)
-unfolding forAll
-forAll-keeps P move k [] b h = h
-forAll-keeps P move k (x ∷ l) b h = forAll-keeps P move k l (move x b) (k x b h)
 
 -- an invariant that tells of those that are still to come
 pub forAll-counts : {A : Type 0} (P : List A → Board → Type 0) (move : A → Board → Board) → ((x : A) (l : List A) (b : Board) → P (x ∷ l) b → P l (move x b)) → (l m : List A) (b : Board) → P (l ++ m) b → P m (forAll move l b)

@@ -25,8 +25,8 @@ use Rattle.rules.proofs.KeptLists.{Ids, Ids-none, Ids-join}
 use Rattle.rules.proofs.KeptRotations.{Rota-dropFirst, Rota-open}
 use Rattle.rules.proofs.KeptTables.{Rows-each, at-keysWhere, at-holds}
 use Rattle.rules.proofs.KeptBoard.{limits, Good, on-settings, on-machines, on-rotations, stamp-now}
-use Rattle.rules.proofs.KeptMoves.{keeps-short, keeps-madeReady, keeps-drawnTo, good-place, machine-at, joins-of, good-putOn, good-takeOff, good-release, forAll-keeps, good-giveUpSeat}
-use Rattle.rules.proofs.Turns.{Finishes, checked-finishes, step-keeps, poolDraw-finishes}
+use Rattle.rules.proofs.KeptMoves.{keeps-short, keeps-madeReady, keeps-drawnTo, good-place, machine-at, joins-of, good-putOn, good-takeOff, good-release, good-giveUpSeat}
+use Rattle.rules.proofs.Turns.{forAll-keeps, Finishes, checked-finishes, step-keeps, poolDraw-finishes}
 
 -- ---- TICK
 

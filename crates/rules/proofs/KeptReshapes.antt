@@ -22,8 +22,8 @@ use Rattle.rules.proofs.Tests.{of-no, and-parts, and-joins, or-cases, o
 use Rattle.rules.proofs.KeptLists.{Part, part-keep, part-occ, occ-sort, Ids, Ids-none}
 use Rattle.rules.proofs.KeptTables.{length-put, Rows, Rows-none, Rows-within, Rows-put, Rows-update, once-keysWhere, holds-at, at-update}
 use Rattle.rules.proofs.KeptBoard.{limits, family, Fit, of-fit, Fit-seats, Fit-quiet, Good, on-reshapes, stamp-now}
-use Rattle.rules.proofs.KeptMoves.{Keeps, keeps-setToWatch, members-good, Words, Joins, joins-of, Joins-reshapes, good-putOn, Joins-putOn, good-release, forAll-keeps, forAll-counts, forAll-all, good-reshape}
-use Rattle.rules.proofs.Turns.{Draws, andThen-draws, Mixed, shuffle-draws, Finishes, checked-finishes, drawn-finishes, step-keeps}
+use Rattle.rules.proofs.KeptMoves.{Keeps, keeps-setToWatch, members-good, Words, Joins, joins-of, Joins-reshapes, good-putOn, Joins-putOn, good-release, forAll-counts, forAll-all, good-reshape}
+use Rattle.rules.proofs.Turns.{forAll-keeps, Draws, andThen-draws, Mixed, shuffle-draws, Finishes, checked-finishes, drawn-finishes, step-keeps}
 use Rattle.rules.proofs.KeptPlaces.{pool-word}
 
 -- ---- ADMISSIONS

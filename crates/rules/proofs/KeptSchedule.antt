@@ -23,8 +23,8 @@ use Rattle.rules.proofs.Tests.{by-cases, and-parts, or-cases, or-left, 
 use Rattle.rules.proofs.KeptLists.{part-keep, part-length, part-occ, occ-drop, occ-sort, length-sort, Ids, Ids-none, Ids-part}
 use Rattle.rules.proofs.KeptTables.{Rows, Rows-update, at-keysWhere}
 use Rattle.rules.proofs.KeptBoard.{limits, Fit-drainBy, Fit-terminal, Good, fit-at, stamp}
-use Rattle.rules.proofs.KeptMoves.{members-good, forAll-keeps, good-abort, good-reshape, good-marked}
-use Rattle.rules.proofs.Turns.{Mixed, shuffle-draws, Finishes, checked-finishes, drawn-finishes, reshape-finishes, batch-keeps}
+use Rattle.rules.proofs.KeptMoves.{members-good, good-abort, good-reshape, good-marked}
+use Rattle.rules.proofs.Turns.{forAll-keeps, Mixed, shuffle-draws, Finishes, checked-finishes, drawn-finishes, reshape-finishes, batch-keeps}
 
 -- ---- a terminal, or a time to drain by
 

@@ -26,7 +26,6 @@ pub mod SeatsLaws
 pub mod Seats
 pub mod SeatsMoves
 pub mod SeatsRotations
-pub mod SeatsTurns
 pub mod SeatsFormed
 pub mod SeatsPlaces
 pub mod SeatsReshapes

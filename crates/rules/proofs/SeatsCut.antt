@@ -18,11 +18,11 @@ use Rattle.rules.specs.Cut.{isTerminal, due, settle, settleChild, cutSpl
 use Rattle.rules.proofs.Counts.{occ}
 use Rattle.rules.proofs.Tables.{at-remove, tally}
 use Rattle.rules.proofs.Tests.{and-parts}
-use Rattle.rules.proofs.SeatsLaws.{listed}
+use Rattle.rules.proofs.KeptTables.{at-keysWhere}
 use Rattle.rules.proofs.SeatsFormed.{Sound, Formed}
 use Rattle.rules.proofs.Seats.{unit, ofSplit, Seats}
-use Rattle.rules.proofs.SeatsMoves.{forAll-keeps, kind-is}
-use Rattle.rules.proofs.SeatsTurns.{Ends, checked-ends, batch-ends}
+use Rattle.rules.proofs.SeatsMoves.{kind-is}
+use Rattle.rules.proofs.Turns.{forAll-keeps, Finishes, checked-finishes, batch-keeps}
 use Rattle.rules.proofs.SeatsRecast.{recast-reshapes}
 use Rattle.rules.proofs.SeatsSplit.{cut-split-keeps}
 use Rattle.rules.proofs.SeatsMerge.{cut-merge-keeps}
@@ -44,7 +44,7 @@ terminal-set epoch r h = go (r .terminal) h
 was-due : (k : Kind) (b : Board) → Formed b → (t : Shard) → 1 ≤ occ t (due k b) → (r : Reshape) → at t (b .reshapes) ≡ some r → Due k t r
 unfolding due
 was-due k b wf t o r e =
-    let q = listed _ t (b .reshapes) (wf .targets) o in
+    let q = at-keysWhere _ t (b .reshapes) (wf .targets) o in
     let f = and-parts _ _ (q .2) in
     let same-one : q .0 ≡ r = Option·some-injective (q .0) r (sym (q .1) ∙ e) in
     record { sound = wf .sound t r e; kind = sym (ap (λ v. v .kind) same-one) ∙ kind-is k (q .0) (f .0); set = sym (ap (λ v. tally unit (v .terminal)) same-one) ∙ terminal-set (epochOf b) (q .0) (f .1) }
@@ -86,25 +86,25 @@ settle-reshapes t c seats x b = go (at x (b .machines))
     go none = refl
     go (some p) = pick (isSeatedOn t p) (movedTo c) _ (look p (at x seats))
 
-split-turn : (b : Board) (t : Shard) (draws : List ℕ) (c : Board) → ((r : Reshape) → at t (b .reshapes) ≡ some r → Due split t r) → Shrunk b c → Ends (Shrunk b) (cutSplit t draws c)
-unfolding cutSplit cutSplitOf settleChild Ends ofSplit
+split-turn : (b : Board) (t : Shard) (draws : List ℕ) (c : Board) → ((r : Reshape) → at t (b .reshapes) ≡ some r → Due split t r) → Shrunk b c → Finishes (Shrunk b) (cutSplit t draws c)
+unfolding cutSplit cutSplitOf settleChild ofSplit
 split-turn b t draws c was h = go (at t (c .reshapes)) refl
   where
-    cut : (r : Reshape) → at t (c .reshapes) ≡ some r → Ends (Shrunk b) (cutSplitOf t r draws c)
+    cut : (r : Reshape) → at t (c .reshapes) ≡ some r → Finishes (Shrunk b) (cutSplitOf t r draws c)
     cut r e =
         let d = was r (h .less t r e) in
-        checked-ends (Shrunk b) _ _ (λ p. shrunk b c _ t h
+        checked-finishes (Shrunk b) _ _ (λ p. shrunk b c _ t h
         (forAll-keeps (λ v. v .reshapes ≡ remove t (c .reshapes)) _ (λ x v k. settle-reshapes t (rightOf t) (r .seats) x v ∙ k) _ _
         (forAll-keeps (λ v. v .reshapes ≡ remove t (c .reshapes)) _ (λ x v k. settle-reshapes t (leftOf t) (r .seats) x v ∙ k) _ _ (recast-reshapes split t (heightOf t c) c)))
         (cut-split-keeps t r c e (d .kind) (h .seats) (d .sound) (rw (d .kind) (d .set))))
 
-    go : (o : Option Reshape) → at t (c .reshapes) ≡ o → Ends (Shrunk b) (elim o [ none ↦ finished 0 draws c | some r ↦ cutSplitOf t r draws c ])
+    go : (o : Option Reshape) → at t (c .reshapes) ≡ o → Finishes (Shrunk b) (elim o [ none ↦ finished 0 draws c | some r ↦ cutSplitOf t r draws c ])
     go none e = h
     go (some r) e = cut r e
 
 pub cutSplits-kept : (b : Board) → Formed b → Seats b → Seats (cutSplits b .board)
 unfolding cutSplits
-cutSplits-kept b wf h = batch-ends (Shrunk b) cutSplit (due split b) [] b (λ w t ds c o. split-turn b t ds c (was-due split b wf t o)) (record { seats = h; less = λ t r e. e }) .seats
+cutSplits-kept b wf h = batch-keeps (Shrunk b) cutSplit (due split b) [] b (λ w t o ds c. split-turn b t ds c (was-due split b wf t o)) (record { seats = h; less = λ t r e. e }) .seats
 
 -- ---- CUT MERGES
 
@@ -127,23 +127,23 @@ rejoin-reshapes t keepers x b = go (at x (b .machines))
     go none = refl
     go (some p) = look p (at x keepers)
 
-merge-turn : (b : Board) (t : Shard) (draws : List ℕ) (c : Board) → ((r : Reshape) → at t (b .reshapes) ≡ some r → Due merge t r) → Shrunk b c → Ends (Shrunk b) (cutMerge t draws c)
-unfolding cutMerge cutMergeOf place Ends
+merge-turn : (b : Board) (t : Shard) (draws : List ℕ) (c : Board) → ((r : Reshape) → at t (b .reshapes) ≡ some r → Due merge t r) → Shrunk b c → Finishes (Shrunk b) (cutMerge t draws c)
+unfolding cutMerge cutMergeOf place
 merge-turn b t draws c was h = go (at t (c .reshapes)) refl
   where
-    cut : (r : Reshape) → at t (c .reshapes) ≡ some r → Ends (Shrunk b) (cutMergeOf t r draws c)
+    cut : (r : Reshape) → at t (c .reshapes) ≡ some r → Finishes (Shrunk b) (cutMergeOf t r draws c)
     cut r e =
         let d = was r (h .less t r e) in
         let height = larger (heightOf (leftOf t) c) (heightOf (rightOf t) c) in
-        checked-ends (Shrunk b) _ _ (λ p. shrunk b c _ t h
+        checked-finishes (Shrunk b) _ _ (λ p. shrunk b c _ t h
         (forAll-keeps (λ v. v .reshapes ≡ remove t (c .reshapes)) _ (λ x v k. rejoin-reshapes t (r .seats) x v ∙ k) _ _
         (forAll-keeps (λ v. v .reshapes ≡ remove t (c .reshapes)) _ (λ x v k. k) _ _ (recast-reshapes merge t height c)))
         (cut-merge-keeps t r c e (d .kind) (d .sound) (h .seats) height))
 
-    go : (o : Option Reshape) → at t (c .reshapes) ≡ o → Ends (Shrunk b) (elim o [ none ↦ finished 0 draws c | some r ↦ cutMergeOf t r draws c ])
+    go : (o : Option Reshape) → at t (c .reshapes) ≡ o → Finishes (Shrunk b) (elim o [ none ↦ finished 0 draws c | some r ↦ cutMergeOf t r draws c ])
     go none e = h
     go (some r) e = cut r e
 
 pub cutMerges-kept : (b : Board) → Formed b → Seats b → Seats (cutMerges b .board)
 unfolding cutMerges
-cutMerges-kept b wf h = batch-ends (Shrunk b) cutMerge (due merge b) [] b (λ w t ds c o. merge-turn b t ds c (was-due merge b wf t o)) (record { seats = h; less = λ t r e. e }) .seats
+cutMerges-kept b wf h = batch-keeps (Shrunk b) cutMerge (due merge b) [] b (λ w t o ds c. merge-turn b t ds c (was-due merge b wf t o)) (record { seats = h; less = λ t r e. e }) .seats

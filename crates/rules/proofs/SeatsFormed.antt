@@ -16,7 +16,8 @@ use Rattle.rules.specs.WellFormed.{goodList, goodIds, goodCommittee, goo
 use Rattle.rules.proofs.Counts.{occ}
 use Rattle.rules.proofs.Tables.{From}
 use Rattle.rules.proofs.Tests.{and-parts, or-cases, all-parts, le-of, every-at, rising-table}
-use Rattle.rules.proofs.SeatsLaws.{bit-yes, distinct-once}
+use Rattle.rules.proofs.KeptLists.{distinct-once}
+use Rattle.rules.proofs.SeatsLaws.{bit-yes}
 
 -- a reshape with its target
 pub record Sound (t : Shard) (r : Reshape) : Type 0 where

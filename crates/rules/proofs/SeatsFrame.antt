@@ -16,12 +16,12 @@ use Rattle.rules.specs.Moves.{familyOf, overlaps, oldShards, newShards, 
 use Rattle.rules.specs.Reshapes.{familyFree, admissionFaults, newReshape, admit, admitSplit, drawKeepers, admitMerge}
 use Rattle.rules.proofs.Counts.{Alike, same, apart, alike, eqb-same, hit-same, hit-apart, occ}
 use Rattle.rules.proofs.Tables.{From, at-put, tally, tally-put, occ-keysWhere}
-use Rattle.rules.proofs.Tests.{and-parts, and-joins, every-has, has-every, of-not, not-of}
-use Rattle.rules.proofs.SeatsLaws.{zero-unless, bit-yes, bit-no, yes-bit, no-bit, of-no, stands-bit, out-of, of-out, none-in, in-none}
+use Rattle.rules.proofs.Tests.{and-parts, and-joins, every-has, has-every, of-not, not-of, of-no}
+use Rattle.rules.proofs.SeatsLaws.{zero-unless, bit-yes, bit-no, yes-bit, no-bit, stands-bit, out-of, of-out, none-in, in-none}
 use Rattle.rules.proofs.SeatsFormed.{Formed}
 use Rattle.rules.proofs.Seats.{unit, ofSplit, sitting, schedAt, halfAt, commN, boundN, kindOf, kindAt, Frame, Seats}
 use Rattle.rules.proofs.SeatsMoves.{none-split, no-seats}
-use Rattle.rules.proofs.SeatsTurns.{Ends, checked-ends, drawn-ends, alone-ends}
+use Rattle.rules.proofs.Turns.{Finishes, checked-finishes, drawn-told, alone-keeps}
 
 -- ---- the shards of a family
 
@@ -163,9 +163,9 @@ module _ (t : Shard) (r : Reshape) (b : Board) (free : Free t b) where
 -- ---- ADMISSIONS
 
 admit-ends : (k : Kind) (t : Shard) (handled : ℕ) (seats : Table Seat) (draws : List ℕ) (b : Board) → Formed b → (familyFree t b and committeesFit k t b) ≡ true → boundsStand k t b ≡ true
-    → ((x : Id) → sitting x (newReshape k seats b) ≡ 0) → Seats b → Ends Seats (admit k t handled seats draws b)
-unfolding admit Ends tally
-admit-ends k t handled seats draws b wf fits edges nq h = checked-ends Seats _ _ (λ p.
+    → ((x : Id) → sitting x (newReshape k seats b) ≡ 0) → Seats b → Finishes Seats (admit k t handled seats draws b)
+unfolding admit tally
+admit-ends k t handled seats draws b wf fits edges nq h = checked-finishes Seats _ _ (λ p.
     let r = newReshape k seats b in
     let fit = and-parts _ _ fits in
     let free = free-of t b (wf .targets) (fit .0) in
@@ -174,9 +174,9 @@ admit-ends k t handled seats draws b wf fits edges nq h = checked-ends Seats _ _
 pub admitSplit-kept : (t : Shard) (b : Board) → Formed b → Seats b → Seats (admitSplit t b .board)
 unfolding admitSplit admissionFaults
 admitSplit-kept t b wf h =
-    alone-ends Seats [] b _ h (checked-ends Seats _ _ (λ p. admit-ends split t 1 [] [] b wf (of-no _ (p .1 .1 .0)) (of-no _ (p .1 .1 .1 .0)) (λ x. no-seats x split) h))
+    alone-keeps Seats [] b _ h (checked-finishes Seats _ _ (λ p. admit-ends split t 1 [] [] b wf (of-no _ (p .1 .1 .0)) (of-no _ (p .1 .1 .1 .0)) (λ x. no-seats x split) h))
 
 pub admitMerge-kept : (t : Shard) (draws : List ℕ) (b : Board) → Formed b → Seats b → Seats (admitMerge t draws b .board)
 unfolding admitMerge admissionFaults ofSplit
-admitMerge-kept t draws b wf h = alone-ends Seats draws b _ h (checked-ends Seats _ _ (λ p. drawn-ends Seats (drawKeepers t b draws) _ (λ keepers left e.
+admitMerge-kept t draws b wf h = alone-keeps Seats draws b _ h (checked-finishes Seats _ _ (λ p. drawn-told Seats (drawKeepers t b draws) _ (λ keepers left e.
     admit-ends merge t _ keepers left b wf (of-no _ (p .1 .1 .0)) (of-no _ (p .1 .1 .1 .0)) (λ x. refl) h)))

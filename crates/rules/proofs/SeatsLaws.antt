@@ -45,10 +45,6 @@ unfolding _and_
 and-most true c = bit-most c
 and-most false c = omega arith
 
-pub of-no : (c : Bool) → not c ≡ false → c ≡ true
-of-no true h = refl
-of-no false h = absurd (true≢false h)
-
 -- what stands at a key passes a test: its number is 1
 pub holds-bit : {A : Type 0} (f : A → Bool) (g : A → ℕ) → ((a : A) → bitOf (f a) ≡ g a) → (k : ℕ) (t : Table A) → bitOf (holdsAt k f t) ≡ tally g (at k t)
 unfolding holdsAt tally
@@ -77,15 +73,6 @@ some-bit (some v) = refl
 pub stands-bit : {A : Type 0} (k : ℕ) (t : Table A) → bitOf (stands k t) ≡ tally (λ a. 1) (at k t)
 unfolding stands
 stands-bit k t = some-bit (at k t)
-
--- a key that is listed by a test: what stands there passes it
-pub listed : {A : Type 0} (f : A → Bool) (k : ℕ) (t : Table A) → From 0 t → 1 ≤ occ k (keysWhere f t) → (v : A) × (at k t ≡ some v) × (f v ≡ true)
-unfolding tally
-listed {A} f k t r h = go (at k t) refl (omega (arith, occ-keysWhere f k 0 t r))
-  where
-    go : (o : Option A) → at k t ≡ o → 1 ≤ tally (λ v. bitOf (f v)) o → (v : A) × (at k t ≡ some v) × (f v ≡ true)
-    go none e n = absurd (omega arith)
-    go (some v) e n = (v, e, yes-bit (f v) n)
 
 -- ---- a number is in a list
 
@@ -124,21 +111,6 @@ unfolding any occ _or_
 in-none f [] h = refl
 in-none f (y ∷ l) h = rw (h y (omega (arith, hit-same y))) (in-none f l (λ x o. h x (omega arith)))
 
--- distinct numbers stand once
-pub distinct-once : (l : List ℕ) → distinct l ≡ true → (x : ℕ) → occ x l ≤ 1
-unfolding distinct occ
-distinct-once [] h x = omega arith
-distinct-once (y ∷ l) h x = go (alike x y) (distinct-once l (and-parts _ _ h .1) x) (out-of y l (of-not _ (and-parts _ _ h .0)))
-  where
-    go : Alike x y → occ x l ≤ 1 → occ y l ≡ 0 → occ x (y ∷ l) ≤ 1
-    go (same p q) ih n = rw p (omega (arith, hit-most y y))
-    go (apart p q) ih n = omega (arith, hit-apart x y p)
-
-pub once-distinct : (l : List ℕ) → ((x : ℕ) → occ x l ≤ 1) → distinct l ≡ true
-unfolding distinct occ
-once-distinct [] h = refl
-once-distinct (y ∷ l) h = and-joins _ _ (not-of _ (of-out y l (omega (arith, h y, hit-same y)))) (once-distinct l (λ x. omega (arith, h x)))
-
 -- a sort neither loses nor makes nor doubles a number
 occ-insert : (x y : ℕ) (l : List ℕ) → occ x (insert y l) ≡ hit x y + occ x l
 unfolding insert occ
@@ -148,8 +120,3 @@ occ-insert x y (z ∷ l) = go (leb y z) (occ-insert x y l)
     go : (c : Bool) → occ x (insert y l) ≡ hit x y + occ x l → occ x (cond c (y ∷ z ∷ l) (z ∷ insert y l)) ≡ hit x y + occ x (z ∷ l)
     go true h = refl
     go false h = omega arith
-
-pub occ-sort : (x : ℕ) (l : List ℕ) → occ x (sort l) ≡ occ x l
-unfolding sort occ
-occ-sort x [] = refl
-occ-sort x (y ∷ l) = occ-insert x y (sort l) ∙ ap (λ n. hit x y + n) (occ-sort x l)

@@ -21,11 +21,6 @@ use Rattle.rules.proofs.Seats.{seatsAt, watchesAt, hereAt, unit, told, 
 
 -- ---- one move after another
 
-pub forAll-keeps : {A : Type 0} (P : Board → Type 0) (move : A → Board → Board) → ((x : A) (b : Board) → P b → P (move x b)) → (l : List A) (b : Board) → P b → P (forAll move l b)
-unfolding forAll
-forAll-keeps P move k [] b p = p
-forAll-keeps P move k (x ∷ l) b p = forAll-keeps P move k l (move x b) (k x b p)
-
 -- a change that each move leaves alone may as well come first
 pub forAll-swap : {A : Type 0} (g : Board → Board) (move : A → Board → Board) → ((x : A) (b : Board) → g (move x b) ≡ move x (g b)) → (l : List A) (b : Board) → g (forAll move l b) ≡ forAll move l (g b)
 unfolding forAll

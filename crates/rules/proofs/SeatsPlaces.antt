@@ -9,7 +9,7 @@ use lib.Dec.{leb, ltb}
 use lib.ListN.{length}
 use Rattle.types.specs.Numbers.{Shard, Id}
 use Rattle.types.specs.Shards.{parentOf}
-use Rattle.types.specs.Places.{isSeatedOn, short, madeReady, drawnTo}
+use Rattle.types.specs.Places.{isPooled, isSeatedOn, short, madeReady, drawnTo}
 use Rattle.types.specs.declared.ShardId.{ShardId}
 use Rattle.types.specs.declared.Epoch.{Epoch}
 use Rattle.types.specs.declared.Place.{Place}
@@ -18,25 +18,35 @@ use Rattle.types.specs.declared.Answer.the-variants.{NoRecord}
 use Rattle.rules.specs.Lists.{_and_, bitOf, any, strike}
 use Rattle.rules.specs.Table.{at, stands, holdsAt, remove, each, isSome}
 use Rattle.rules.specs.Board.{Rotation, Kind, split, merge, Reshape, Board, mostRotations, onMachines, onRotations, epochOf}
-use Rattle.rules.specs.Moves.{place, join, quit, putOn, takeOff, forAll, pooledFrom, hasParty, isParty, openRotation, dropFirst, withSeats, isKind, reshapeAt, giveUpSeat}
+use Rattle.rules.specs.Moves.{poolOf, place, join, quit, putOn, takeOff, forAll, pooledFrom, hasParty, isParty, openRotation, dropFirst, withSeats, isKind, reshapeAt, giveUpSeat}
 use Rattle.rules.specs.Turns.{finished, refused, poolDraw}
 use Rattle.rules.specs.Places.{tick, isScheduledSplit, leaveSeat, leaveFromSeat, leaveFrom, leaveTurn, leave, inFlight, mayRotate, victimFit, newRotation, rotateTurn, rotate, isResolved, hasSeatsFree, isRotation, retire, close, resolved, resolve, isDue, timeOut}
 use Rattle.rules.proofs.Counts.{Alike, same, apart, alike, eqb-same, hit, hit-same, hit-apart, occ, occ-single}
-use Rattle.rules.proofs.Tables.{From, From-update, tally, tally-update, tally-remove, tally-same, tally-each, known-most}
-use Rattle.rules.proofs.Tests.{and-parts, of-not, eq-of}
-use Rattle.rules.proofs.SeatsLaws.{bit-yes, bit-no, of-no, holds-bit, some-bit, stands-bit, tally-le}
+use Rattle.rules.proofs.Tables.{From, From-update, occ-keysWhere, tally, tally-update, tally-remove, tally-same, tally-each, known-most}
+use Rattle.rules.proofs.Tests.{and-parts, of-not, eq-of, of-no}
+use Rattle.rules.proofs.SeatsLaws.{bit-yes, bit-no, holds-bit, some-bit, stands-bit, tally-le}
 use Rattle.rules.proofs.SeatsFormed.{Formed}
-use Rattle.rules.proofs.Seats.{says-told, seatsAt, watchesAt, hereAt, unit, told, ofSplit, sitting, inSplit, schedAt, schedN, halfAt, total, partyOf, party, commN, Seats, seats-most, seat-of, here-sum, seats-bit, Nowhere, nowhere-short, nowhere-pooled, moved}
+use Rattle.rules.proofs.Seats.{pool-of, says-told, seatsAt, watchesAt, hereAt, unit, told, ofSplit, sitting, inSplit, schedAt, schedN, halfAt, total, partyOf, party, commN, Seats, seats-most, seat-of, here-sum, seats-bit, Nowhere, nowhere-short, nowhere-pooled, moved}
 use Rattle.rules.proofs.SeatsMoves.{stands-of, Steady, steady-sched, splitN, split-at, seat-keeps, spare, unseat-keeps, turns-keep, fewer-keep, unseen-keeps, left-all, leaving, unwatch-keeps}
 use Rattle.rules.proofs.SeatsRotations.{total-open, total-drop, drop-least, drop-most, none-total, some-total, total-keep, party-yes, party-no}
-use Rattle.rules.proofs.SeatsTurns.{Ends, checked-ends, alone-ends, pool-ends}
+use Rattle.rules.proofs.Turns.{Finishes, checked-finishes, alone-keeps, poolDraw-finishes}
+
+-- who is in the pool is pooled
+in-pool : (b : Board) (x : Id) → From 0 (b .machines) → 1 ≤ occ x (poolOf b) → at x (b .machines) ≡ some Pooled
+unfolding poolOf
+in-pool b x r h = pool-of (at x (b .machines)) (omega (arith, occ-keysWhere isPooled x 0 (b .machines) r))
+
+-- a pool draw: an empty pool leaves the board, else one that is pooled is seated
+pub pool-finishes : (P : Board → Type 0) (s : Shard) (full : Bool) (also : Id → Board → Board) (draws : List ℕ) (b : Board) → From 0 (b .machines) → P b
+    → ((x : Id) → at x (b .machines) ≡ some Pooled → P (also x (putOn s (drawnTo s (epochOf b)) x b))) → Finishes P (poolDraw s full also draws b)
+pool-finishes P s full also draws b r p h = poolDraw-finishes P s full also draws b p (λ x o m f. h x (in-pool b x r o))
 
 -- ---- TICK
 
 pub tick-kept : (b : Board) → Seats b → Seats (tick b .board)
-unfolding tick Ends
+unfolding tick
 tick-kept b h =
-    alone-ends Seats [] b _ h (checked-ends Seats _ _ (λ p. record { members = h .members; watchers = h .watchers; parties = h .parties; calm = h .calm; halved = h .halved; frame = h .frame }))
+    alone-keeps Seats [] b _ h (checked-finishes Seats _ _ (λ p. record { members = h .members; watchers = h .watchers; parties = h .parties; calm = h .calm; halved = h .halved; frame = h .frame }))
 
 -- ---- TIME OUT
 
@@ -56,9 +66,9 @@ still-keeps f b se wa h = record {
     same-told g e x = tally-each g (λ y. f) (λ y. e) x (b .machines)
 
 pub timeOut-kept : (b : Board) → Seats b → Seats (timeOut b .board)
-unfolding timeOut Ends seatsAt watchesAt
+unfolding timeOut seatsAt watchesAt
 timeOut-kept b h =
-    alone-ends Seats [] b _ h (checked-ends Seats _ _ (λ p. still-keeps (λ p. cond (isDue b p) (madeReady p) p) b (λ s. whoever (seatsAt s) (seat s)) (λ s. whoever (watchesAt s) (eye s)) h))
+    alone-keeps Seats [] b _ h (checked-finishes Seats _ _ (λ p. still-keeps (λ p. cond (isDue b p) (madeReady p) p) b (λ s. whoever (seatsAt s) (seat s)) (λ s. whoever (watchesAt s) (eye s)) h))
   where
     seat : (s : Shard) (p : Place) → seatsAt s (madeReady p) ≡ seatsAt s p
     seat s Pooled = refl
@@ -190,10 +200,10 @@ leave-party s x b on p h =
 
 -- one from the pool takes the place
 leave-fill : (s : Shard) (x : Id) (draws : List ℕ) (b : Board) → From 0 (b .machines) → 1 ≤ told (seatsAt s) b x → schedN b s ≡ 0 → Seats b → Seats (leaveSeat s x b)
-    → Ends Seats (poolDraw s false (λ y c. c) draws (leaveSeat s x b))
+    → Finishes Seats (poolDraw s false (λ y c. c) draws (leaveSeat s x b))
 unfolding leaveSeat giveUpSeat takeOff quit place
 leave-fill s x draws b ids on calm h k =
-    pool-ends Seats s false (λ y c. c) draws (leaveSeat s x b) (From-update x short 0 (b .machines) ids) k
+    pool-finishes Seats s false (λ y c. c) draws (leaveSeat s x b) (From-update x short 0 (b .machines) ids) k
     (λ y e. seat-keeps s (epochOf b) y (leaveSeat s x b) e comm sched k)
   where
     comm : commN (leaveSeat s x b) s ≡ 1
@@ -202,22 +212,22 @@ leave-fill s x draws b ids on calm h k =
     sched : schedN (leaveSeat s x b) s ≡ 0
     sched = steady-sched (parentOf s) _ (b .reshapes) (give-steady merge x) s ∙ calm
 
-leave-seat : (s : Shard) (x : Id) (draws : List ℕ) (b : Board) → From 0 (b .machines) → 1 ≤ told (seatsAt s) b x → Seats b → Ends Seats (leaveFromSeat s x draws b)
-unfolding leaveFromSeat Ends isParty
+leave-seat : (s : Shard) (x : Id) (draws : List ℕ) (b : Board) → From 0 (b .machines) → 1 ≤ told (seatsAt s) b x → Seats b → Finishes Seats (leaveFromSeat s x draws b)
+unfolding leaveFromSeat isParty
 leave-seat s x draws b ids on h = go (isParty s x b) refl (holdsAt s isScheduledSplit (b .reshapes)) refl
   where
     out : isParty s x b ≡ false → Seats (leaveSeat s x b)
     out p = leaveSeat-keeps s x b on (none-total (partyOf s x) (hasParty s x) (party-no s x) (b .rotations) p) h
 
     go : (c : Bool) → isParty s x b ≡ c → (d : Bool) → holdsAt s isScheduledSplit (b .reshapes) ≡ d
-        → Ends Seats (cond c (finished 0 draws (onRotations (dropFirst (hasParty s x)) (leaveSeat s x b)))
+        → Finishes Seats (cond c (finished 0 draws (onRotations (dropFirst (hasParty s x)) (leaveSeat s x b)))
         (cond d (finished 0 draws (leaveSeat s x b)) (poolDraw s false (λ y c. c) draws (leaveSeat s x b))))
     go true p d q = leave-party s x b on p h
     go false p true q = out p
     go false p false q = leave-fill s x draws b ids on (sym (holds-bit isScheduledSplit schedAt sched-bit s (b .reshapes)) ∙ bit-no _ q) h (out p)
 
-leave-from : (p : Place) (x : Id) (draws : List ℕ) (b : Board) → at x (b .machines) ≡ some p → From 0 (b .machines) → Seats b → Ends Seats (leaveFrom p x draws b)
-unfolding leaveFrom Ends tally seatsAt watchesAt
+leave-from : (p : Place) (x : Id) (draws : List ℕ) (b : Board) → at x (b .machines) ≡ some p → From 0 (b .machines) → Seats b → Finishes Seats (leaveFrom p x draws b)
+unfolding leaveFrom tally seatsAt watchesAt
 leave-from Pooled x draws b e ids h = nowhere-keeps x short Pooled b e nowhere-pooled nowhere-short h
 leave-from (Seated s r w) x draws b e ids h = leave-seat (s .0) x draws b ids (rw e (omega (arith, hit-same (s .0)))) h
 leave-from (Observing s w) x draws b e ids h = leave-watch x s w b e h
@@ -225,10 +235,10 @@ leave-from Short x draws b e ids h = nowhere-keeps x short Short b e nowhere-sho
 leave-from (Other m) x draws b e ids h = nowhere-keeps x short (Other m) b e (record { seats = λ s. refl; watches = λ s. refl }) nowhere-short h
 
 pub leave-kept : (x : Id) (draws : List ℕ) (b : Board) → Formed b → Seats b → Seats (leave x draws b .board)
-unfolding leave leaveTurn Ends
-leave-kept x draws b wf h = alone-ends Seats draws b _ h (checked-ends Seats _ _ (λ p. go (at x (b .machines)) refl))
+unfolding leave leaveTurn
+leave-kept x draws b wf h = alone-keeps Seats draws b _ h (checked-finishes Seats _ _ (λ p. go (at x (b .machines)) refl))
   where
-    go : (o : Option Place) → at x (b .machines) ≡ o → Ends Seats (elim o [ none ↦ refused NoRecord | some p ↦ leaveFrom p x draws b ])
+    go : (o : Option Place) → at x (b .machines) ≡ o → Finishes Seats (elim o [ none ↦ refused NoRecord | some p ↦ leaveFrom p x draws b ])
     go none e = tt
     go (some p) e = leave-from p x draws b e (wf .ids) h
 
@@ -253,11 +263,11 @@ sched-split o = tally-le schedAt (λ r. ofSplit (r .kind) 1) (λ r. go (r .kind)
     go split o = known-most o
     go merge o = omega arith
 
-rotate-turn : (s : Shard) (v : Id) (draws : List ℕ) (b : Board) → mayRotate s b ≡ true → From 0 (b .machines) → Seats b → Ends Seats (rotateTurn s v draws b)
+rotate-turn : (s : Shard) (v : Id) (draws : List ℕ) (b : Board) → mayRotate s b ≡ true → From 0 (b .machines) → Seats b → Finishes Seats (rotateTurn s v draws b)
 unfolding rotateTurn mayRotate victimFit isParty
-rotate-turn s v draws b may ids h = checked-ends Seats _ _ (λ k.
+rotate-turn s v draws b may ids h = checked-finishes Seats _ _ (λ k.
     let fit = and-parts _ _ (of-no _ (k .0)) in
-    pool-ends Seats s (leb mostRotations (length (b .rotations))) (λ x. onRotations (openRotation (newRotation s v x b))) draws b ids h (λ x e.
+    pool-finishes Seats s (leb mostRotations (length (b .rotations))) (λ x. onRotations (openRotation (newRotation s v x b))) draws b ids h (λ x e.
     rotate-one s v x b e comm calm
     (omega (arith, says-told (isSeatedOn s) (seatsAt s) (seats-bit s) b v (fit .0)))
     (none-total (partyOf s v) (hasParty s v) (party-no s v) (b .rotations) (of-not _ (fit .1))) h))
@@ -275,10 +285,10 @@ rotate-turn s v draws b may ids h = checked-ends Seats _ _ (λ k.
     calm = omega (arith, sched-split (at s (b .reshapes)), none-there)
 
 pub rotate-kept : (s : Shard) (v : Id) (draws : List ℕ) (b : Board) → Formed b → Seats b → Seats (rotate s v draws b .board)
-unfolding rotate Ends
-rotate-kept s v draws b wf h = alone-ends Seats draws b _ h (checked-ends Seats _ _ (λ p. go (mayRotate s b) refl))
+unfolding rotate
+rotate-kept s v draws b wf h = alone-keeps Seats draws b _ h (checked-finishes Seats _ _ (λ p. go (mayRotate s b) refl))
   where
-    go : (c : Bool) → mayRotate s b ≡ c → Ends Seats (cond c (rotateTurn s v draws b) (finished 0 draws b))
+    go : (c : Bool) → mayRotate s b ≡ c → Finishes Seats (cond c (rotateTurn s v draws b) (finished 0 draws b))
     go true e = rotate-turn s v draws b e (wf .ids) h
     go false e = h
 
@@ -341,5 +351,5 @@ close-all [] b o h = h
 close-all (r ∷ l) b o h = let c = close-keeps r l b o h in close-all l (close r b) (c .0) (c .1)
 
 pub resolve-kept : (b : Board) → Seats b → Seats (resolve b .board)
-unfolding resolve resolved Ends Open
-resolve-kept b h = alone-ends Seats [] b _ h (checked-ends Seats _ _ (λ p. close-all (resolved b) b (λ s v. total-keep (victimOf s v) (isResolved b) (b .rotations)) h))
+unfolding resolve resolved Open
+resolve-kept b h = alone-keeps Seats [] b _ h (checked-finishes Seats _ _ (λ p. close-all (resolved b) b (λ s v. total-keep (victimOf s v) (isResolved b) (b .rotations)) h))

@@ -17,10 +17,10 @@ use Rattle.rules.proofs.Counts.{Alike, same, apart, alike, eqb-same, eq
 use Rattle.rules.proofs.Tables.{cond-const, at-put, at-remove, tally, tally-remove, known-most, known-more}
 use Rattle.rules.proofs.SeatsLaws.{zero-unless, none-told}
 use Rattle.rules.proofs.Seats.{seatsAt, watchesAt, hereAt, unit, told, inC, ofSplit, sitting, inSplit, schedAt, schedN, halfAt, inHalves, party, commN, boundN, kindOf, kindAt, Frame, Seats}
-use Rattle.rules.proofs.SeatsMoves.{forAll-keeps}
 use Rattle.rules.proofs.SeatsRotations.{party-gone, party-stays, party-fewer}
 use Rattle.rules.proofs.SeatsFrame.{own-family, old-family, new-family, old-new}
 use Rattle.rules.proofs.SeatsCutting.{strayAt, Cutting}
+use Rattle.rules.proofs.Turns.{forAll-keeps}
 
 -- what is seen of one shard, when each shard of a list is changed: the shard itself sees it, and no other
 module _ {A : Type 0} (see : Board → A) (move : Shard → Board → Board) (u : Shard) where

@@ -22,25 +22,27 @@ use Rattle.rules.specs.Reshapes.{halfUp, readySeat, markSeatReady, quiet
 use Rattle.rules.specs.Schedule.{unscheduled, isQuiet, scheduled, drainOrSchedule, seatedThere, splitGate, passGate, halve, scheduleSplit, scheduleSplits, mergeGate, scheduleMerge, scheduleMerges}
 use Rattle.rules.proofs.Counts.{Alike, same, apart, alike, eqb-same, hit, hit-same, hit-apart, occ, occ-append, occ-take, occ-keep, shuffle-keeps}
 use Rattle.rules.proofs.Tables.{From, tally, tally-update, tally-same, known-most, occ-keysWhere}
-use Rattle.rules.proofs.Tests.{and-parts}
-use Rattle.rules.proofs.SeatsLaws.{bit-yes, bit-no, bit-most, and-most, of-no, holds-bit, listed, tally-le, occ-sort}
+use Rattle.rules.proofs.Tests.{and-parts, of-no}
+use Rattle.rules.proofs.KeptLists.{occ-sort}
+use Rattle.rules.proofs.KeptTables.{at-keysWhere}
+use Rattle.rules.proofs.SeatsLaws.{bit-yes, bit-no, bit-most, and-most, holds-bit, tally-le}
 use Rattle.rules.proofs.SeatsFormed.{Formed}
 use Rattle.rules.proofs.Seats.{seatsAt, watchesAt, pooledAt, unit, told, inC, ofSplit, sitting, inSplit, schedAt, halfAt, party, kindAt, Frame-same, Seats, seats-most, seat-of, watch-of, pool-of, here-sum, here-most, seats-bit, nowhere-pooled, moved}
-use Rattle.rules.proofs.SeatsMoves.{forAll-keeps, forAll-swap, occ-members, no-seats, kind-of, kind-is, steady-seats, kind-update, splitN, split-bit, split-at, fewer-keep, unseen-keeps, Leaving, left-all, leaving, unwatch-keeps, watch-keeps}
+use Rattle.rules.proofs.SeatsMoves.{forAll-swap, occ-members, no-seats, kind-of, kind-is, steady-seats, kind-update, splitN, split-bit, split-at, fewer-keep, unseen-keeps, Leaving, left-all, leaving, unwatch-keeps, watch-keeps}
 use Rattle.rules.proofs.SeatsRotations.{party-gone, party-fewer, entrants-party}
-use Rattle.rules.proofs.SeatsTurns.{Ends, checked-ends, drawn-ends, alone-ends, batch-ends}
+use Rattle.rules.proofs.Turns.{forAll-keeps, Finishes, checked-finishes, drawn-told, alone-keeps, batch-keeps}
 use Rattle.rules.proofs.SeatsPlaces.{unseat-pooled}
 
 -- ---- MARKS
 
 pub markSeatReady-kept : (t : Shard) (x : Id) (b : Board) → Seats b → Seats (markSeatReady t x b .board)
-unfolding markSeatReady Ends
-markSeatReady-kept t x b h = alone-ends Seats [] b _ h (checked-ends Seats _ _ (λ p.
+unfolding markSeatReady
+markSeatReady-kept t x b h = alone-keeps Seats [] b _ h (checked-finishes Seats _ _ (λ p.
     unseen-keeps t (withSeats (update x readySeat)) b (steady-seats (update x readySeat)) (λ y r. ap (ofSplit (r .kind)) (tally-same unit readySeat (λ q. refl) y x (r .seats))) h))
 
 pub markQuiet-kept : (t : Shard) (side : ℕ) (b : Board) → Seats b → Seats (markQuiet t side b .board)
-unfolding markQuiet quieted Ends
-markQuiet-kept t side b h = alone-ends Seats [] b _ h (checked-ends Seats _ _ (λ p.
+unfolding markQuiet quieted
+markQuiet-kept t side b h = alone-keeps Seats [] b _ h (checked-finishes Seats _ _ (λ p.
     unseen-keeps t (quieted side) b (record { kind = λ r. refl; sched = λ r. refl; halves = λ x r. refl }) (λ x r. refl) h))
 
 -- ---- DRAW COHORT
@@ -93,8 +95,8 @@ awaits-split t b h =
     most r = omega (arith, bit-most (isKind split r), split-bit r)
 
 pub drawCohort-kept : (t : Shard) (draws : List ℕ) (b : Board) → Formed b → Seats b → Seats (drawCohort t draws b .board)
-unfolding drawCohort cohortTurn poolOf Ends
-drawCohort-kept t draws b wf h = alone-ends Seats draws b _ h (checked-ends Seats _ _ (λ p. drawn-ends Seats (shuffle (poolOf b) draws) _ (λ ids left e. checked-ends Seats _ _ (λ q.
+unfolding drawCohort cohortTurn poolOf
+drawCohort-kept t draws b wf h = alone-keeps Seats draws b _ h (checked-finishes Seats _ _ (λ p. drawn-told Seats (shuffle (poolOf b) draws) _ (λ ids left e. checked-finishes Seats _ _ (λ q.
     watch-all t (take (sizeOf b) ids) b (record {
       ok = h;
       free = λ x. omega (arith, occ-take x (sizeOf b) ids, shuffle-keeps x (poolOf b) draws ids left e .1, occ-keysWhere isPooled x 0 (b .machines) (wf .ids));
@@ -141,8 +143,8 @@ split-there : (t : Shard) (b : Board) → reshapeAt split t b ≡ true → split
 split-there t b h = sym (split-at t b) ∙ bit-yes _ h
 
 pub lapse-kept : (t : Shard) (b : Board) → Formed b → Seats b → Seats (lapse t b .board)
-unfolding lapse Ends
-lapse-kept t b wf h = alone-ends Seats [] b _ h (checked-ends Seats _ _ (λ p. released-keeps t b wf (split-there t b (of-no _ (p .1 .1 .0))) h))
+unfolding lapse
+lapse-kept t b wf h = alone-keeps Seats [] b _ h (checked-finishes Seats _ _ (λ p. released-keeps t b wf (split-there t b (of-no _ (p .1 .1 .0))) h))
 
 -- ---- SCHEDULES
 
@@ -214,15 +216,15 @@ terminal-keeps t e l m r b er fit h = record {
 -- draining, then the terminal: what holds of the board, of a drain stamp, of a terminal, and is left by a boundary's marks
 drain-ends : (P : Board → Type 0) (t : Shard) (r : Reshape) (left right : List Id) (draws : List ℕ) (b : Board)
     → ((c : Shard) (f : Boundary → Boundary) (d : Board) → P d → P (onBounds (update c f) d)) → P (onReshapes (update t (withDrainBy (epochOf b + b .settings .drain))) b)
-    → P (onReshapes (update t (withTerminal (epochOf b + 1) left right)) b) → P b → Ends P (drainOrSchedule t r left right draws b)
-unfolding drainOrSchedule scheduled Ends
+    → P (onReshapes (update t (withTerminal (epochOf b + 1) left right)) b) → P b → Finishes P (drainOrSchedule t r left right draws b)
+unfolding drainOrSchedule scheduled
 drain-ends P t r left right draws b marks drain set p = go (r .drainBy)
   where
-    quiet : (c : Bool) → Ends P (cond c (checked (not (boundsStand (r .kind) t b) gives NoBoundary ∷ []) (finished 1 draws (scheduled t r left right b))) (finished 0 draws b))
-    quiet true = checked-ends P _ _ (λ k. forAll-keeps P _ (λ s d. marks s _ d) (oldShards (r .kind) t) _ set)
+    quiet : (c : Bool) → Finishes P (cond c (checked (not (boundsStand (r .kind) t b) gives NoBoundary ∷ []) (finished 1 draws (scheduled t r left right b))) (finished 0 draws b))
+    quiet true = checked-finishes P _ _ (λ k. forAll-keeps P _ (λ s d. marks s _ d) (oldShards (r .kind) t) _ set)
     quiet false = p
 
-    go : (o : Option Epoch) → Ends P (elim o [
+    go : (o : Option Epoch) → Finishes P (elim o [
       | none ↦ finished 0 draws (onReshapes (update t (withDrainBy (epochOf b + b .settings .drain))) b)
       | some e ↦ cond (isQuiet r) (checked (not (boundsStand (r .kind) t b) gives NoBoundary ∷ []) (finished 1 draws (scheduled t r left right b))) (finished 0 draws b)
     ])
@@ -250,39 +252,39 @@ halves-occ : (t : Shard) (k : ℕ) (draws ids left : List ℕ) (b : Board) → S
 halves-occ t k draws ids left b h e x = sym (occ-append x (take k ids) (drop k ids)) ∙ rw take-append-drop (shuffle-keeps x (seatedThere t b) draws ids left e .1 ∙ seated-occ t x b h)
 
 gate-ends : (t : Shard) (left right : List Id) (draws : List ℕ) (b : Board) → ((x : Id) → party t x (b .rotations) ≡ 0) → ((x : Id) → occ x left + occ x right ≡ told (seatsAt t) b x)
-    → Seats b → Ends Seats (passGate t left right draws b)
-unfolding passGate Ends
+    → Seats b → Finishes Seats (passGate t left right draws b)
+unfolding passGate
 gate-ends t left right draws b free halves h = go (at t (b .reshapes)) refl
   where
-    pass : (r : Reshape) → at t (b .reshapes) ≡ some r → (c : Bool) → Ends Seats (cond c (drainOrSchedule t r left right draws b) (finished 0 draws b))
+    pass : (r : Reshape) → at t (b .reshapes) ≡ some r → (c : Bool) → Finishes Seats (cond c (drainOrSchedule t r left right draws b) (finished 0 draws b))
     pass r e true = drain-ends Seats t r left right draws b bounds-keep (drain-keeps t _ b h) (terminal-keeps t _ left right r b e (λ k. (free, halves)) h) h
     pass r e false = h
 
-    go : (o : Option Reshape) → at t (b .reshapes) ≡ o → Ends Seats (elim o [
+    go : (o : Option Reshape) → at t (b .reshapes) ≡ o → Finishes Seats (elim o [
       | none ↦ finished 0 draws b
       | some r ↦ cond (splitGate t left right r b) (drainOrSchedule t r left right draws b) (finished 0 draws b)
     ])
     go none e = h
     go (some r) e = pass r e (splitGate t left right r b)
 
-schedule-split : (t : Shard) (draws : List ℕ) (b : Board) → Seats b → Ends Seats (scheduleSplit t draws b)
+schedule-split : (t : Shard) (draws : List ℕ) (b : Board) → Seats b → Finishes Seats (scheduleSplit t draws b)
 unfolding scheduleSplit halve
 schedule-split t draws b h =
     let k = abort-keeps t b h in
-    drawn-ends Seats (shuffle (seatedThere t (abortRotations t b)) draws) _ (λ ids left e.
+    drawn-told Seats (shuffle (seatedThere t (abortRotations t b)) draws) _ (λ ids left e.
     gate-ends t (take (halfUp (length ids)) ids) (drop (halfUp (length ids)) ids) left (abortRotations t b) (λ x. abort-party t x b) (halves-occ t (halfUp (length ids)) draws ids left (abortRotations t b) k e) k)
 
 pub scheduleSplits-kept : (draws : List ℕ) (b : Board) → Seats b → Seats (scheduleSplits draws b .board)
 unfolding scheduleSplits
-scheduleSplits-kept draws b h = batch-ends Seats scheduleSplit (unscheduled split b) draws b (λ w s ds c o. schedule-split s ds c) h
+scheduleSplits-kept draws b h = batch-keeps Seats scheduleSplit (unscheduled split b) draws b (λ w s o ds c. schedule-split s ds c) h
 
 -- of a batch of merges: the kinds stay what they were when the call began
 record Kinds (b c : Board) : Type 0 where
   seats : Seats c
   kinds : (t : Shard) → kindAt c t ≡ kindAt b t
 
-schedule-merge : (b : Board) (t : Shard) (draws : List ℕ) (c : Board) → kindAt b t ≡ some merge → Kinds b c → Ends (Kinds b) (scheduleMerge t draws c)
-unfolding scheduleMerge Ends ofSplit
+schedule-merge : (b : Board) (t : Shard) (draws : List ℕ) (c : Board) → kindAt b t ≡ some merge → Kinds b c → Finishes (Kinds b) (scheduleMerge t draws c)
+unfolding scheduleMerge ofSplit
 schedule-merge b t draws c m h = go (at t (c .reshapes)) refl
   where
     marks : (s : Shard) (f : Boundary → Boundary) (d : Board) → Kinds b d → Kinds b (onBounds (update s f) d)
@@ -295,13 +297,13 @@ schedule-merge b t draws c m h = go (at t (c .reshapes)) refl
     not-split : (r : Reshape) → at t (c .reshapes) ≡ some r → 1 ≤ ofSplit (r .kind) 1 → ⊥
     not-split r e k = omega (arith, rw (kind-of t r merge c e (h .kinds t ∙ m)) at k)
 
-    pass : (r : Reshape) → at t (c .reshapes) ≡ some r → (z : Bool) → Ends (Kinds b) (cond z (drainOrSchedule t r [] [] draws c) (finished 0 draws c))
+    pass : (r : Reshape) → at t (c .reshapes) ≡ some r → (z : Bool) → Finishes (Kinds b) (cond z (drainOrSchedule t r [] [] draws c) (finished 0 draws c))
     pass r e true =
         drain-ends (Kinds b) t r [] [] draws c marks (kind-kept _ (λ q. refl) (drain-keeps t _ c (h .seats)))
         (kind-kept _ (λ q. refl) (terminal-keeps t _ [] [] r c e (λ k. absurd (not-split r e k)) (h .seats))) h
     pass r e false = h
 
-    go : (o : Option Reshape) → at t (c .reshapes) ≡ o → Ends (Kinds b) (elim o [
+    go : (o : Option Reshape) → at t (c .reshapes) ≡ o → Finishes (Kinds b) (elim o [
       | none ↦ finished 0 draws c
       | some r ↦ cond (mergeGate r c) (drainOrSchedule t r [] [] draws c) (finished 0 draws c)
     ])
@@ -311,7 +313,7 @@ schedule-merge b t draws c m h = go (at t (c .reshapes)) refl
 pub scheduleMerges-kept : (b : Board) → Formed b → Seats b → Seats (scheduleMerges b .board)
 unfolding scheduleMerges unscheduled
 scheduleMerges-kept b wf h =
-    batch-ends (Kinds b) scheduleMerge (unscheduled merge b) [] b (λ w s ds c o. schedule-merge b s ds c (due-kind s o)) (record { seats = h; kinds = λ t. refl }) .seats
+    batch-keeps (Kinds b) scheduleMerge (unscheduled merge b) [] b (λ w s o ds c. schedule-merge b s ds c (due-kind s o)) (record { seats = h; kinds = λ t. refl }) .seats
   where
     due-kind : (t : Shard) → 1 ≤ occ t (unscheduled merge b) → kindAt b t ≡ some merge
-    due-kind t o = let q = listed _ t (b .reshapes) (wf .targets) o in rw (q .1) (ap some (kind-is merge (q .0) (and-parts _ _ (q .2) .0)))
+    due-kind t o = let q = at-keysWhere _ t (b .reshapes) (wf .targets) o in rw (q .1) (ap some (kind-is merge (q .0) (and-parts _ _ (q .2) .0)))

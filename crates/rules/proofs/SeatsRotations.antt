@@ -12,8 +12,7 @@ use Rattle.rules.specs.Board.{Rotation}
 use Rattle.rules.specs.WellFormed.{rotationBefore}
 use Rattle.rules.specs.Moves.{hasParty, isOn, openRotation, dropFirst, dropRotations, entrantsOn}
 use Rattle.rules.proofs.Counts.{Alike, same, apart, alike, eqb-same, hit, hit-same, hit-apart, occ}
-use Rattle.rules.proofs.Tests.{and-parts, eq-of}
-use Rattle.rules.proofs.SeatsLaws.{of-no}
+use Rattle.rules.proofs.Tests.{and-parts, eq-of, of-no}
 use Rattle.rules.proofs.Seats.{total, partyOf, party}
 
 module _ (g : Rotation → ℕ) where

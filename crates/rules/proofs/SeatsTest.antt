@@ -21,7 +21,9 @@ use Rattle.rules.specs.SeatCheck.{membersAreThere, hasCohortSeat, isList
 use Rattle.rules.proofs.Counts.{Alike, same, apart, alike, eqb-same, hit, hit-same, hit-apart, occ}
 use Rattle.rules.proofs.Tables.{tally, known-most, occ-keysWhere}
 use Rattle.rules.proofs.Tests.{and-parts, and-joins, or-cases, or-left, or-right, all-parts, all-joins, of-not, not-of, eq-of, of-eq, every-parts, every-join, every-none, every-has, has-every, every-at, at-every}
-use Rattle.rules.proofs.SeatsLaws.{bit-yes, bit-no, yes-bit, bit-most, holds-bit, stands-bit, listed, tally-le, in-of, of-in, out-of, in-none, none-in, distinct-once, once-distinct}
+use Rattle.rules.proofs.KeptLists.{distinct-once, once-distinct}
+use Rattle.rules.proofs.KeptTables.{at-keysWhere}
+use Rattle.rules.proofs.SeatsLaws.{bit-yes, bit-no, yes-bit, bit-most, holds-bit, stands-bit, tally-le, in-of, of-in, out-of, in-none, none-in}
 use Rattle.rules.proofs.SeatsFormed.{Formed, formed}
 use Rattle.rules.proofs.Seats.{says-told, told-says, seatsAt, watchesAt, hereAt, unit, told, inC, ofSplit, sitting, inSplit, schedAt, schedN, halfAt, total, partyOf, party, kindOf, kindAt, Seats, seats-most, here-most, here-sum, seats-bit, watches-bit}
 use Rattle.rules.proofs.SeatsMoves.{occ-members}
@@ -389,7 +391,7 @@ module _ (b : Board) (wf : Formed b) (h : Seats b) where
       keys t = occ-keysWhere (λ v. true) t 0 (b .reshapes) (wf .targets)
 
       known-kind : (t : Shard) → 1 ≤ occ t (keysOf (b .reshapes)) → (k : Kind) × (kindAt b t ≡ some k)
-      known-kind t m = let q = listed _ t (b .reshapes) (wf .targets) m in (q .0 .kind, rw (q .1))
+      known-kind t m = let q = at-keysWhere _ t (b .reshapes) (wf .targets) m in (q .0 .kind, rw (q .1))
 
   reshapes-fit : reshapesStand b ≡ true
   unfolding reshapesStand
