@@ -3,8 +3,7 @@ use mathlib.Core.Path.{_≡_, refl, sym, subst, _∙_}
 use mathlib.Core.List.{List, [], _∷_}
 use mathlib.Core.Option.{Option, none, some}
 use mathlib.Core.Bool.{Bool, true, false, cond, false≢true}
-use Prim.Native.Nat.{ℕ, _+_, _-_}
-use lib.Dec.{eqb}
+use Prim.Native.Nat.{ℕ}
 use lib.ListN.{length, take}
 use Rattle.types.specs.Numbers.{Shard, Id, Epoch}
 use Rattle.types.specs.Answers.{numberOf}
@@ -18,7 +17,7 @@ use Rattle.rules.specs.Board.{Kind, split, merge, Seat, Reshape, Board, 
 use Rattle.rules.specs.WellFormed.{wellFormed}
 use Rattle.rules.specs.Draws.{Drawn, drew, missing, tooLarge, drawFrom}
 use Rattle.rules.specs.Moves.{poolOf, isParty}
-use Rattle.rules.specs.Turns.{Result, Turn, finished, refused, Fault, _gives_, checked, drawn, unlessWellFormed, alone, inTurn, batch, poolDraw}
+use Rattle.rules.specs.Turns.{Turn, finished, refused, Fault, _gives_, checked, drawn, unlessWellFormed, alone, inTurn, batch, poolDraw}
 use Rattle.rules.specs.Places as places
 use Rattle.rules.specs.Reshapes as reshapes
 use Rattle.rules.specs.Schedule as schedule

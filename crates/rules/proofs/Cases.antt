@@ -13,7 +13,7 @@ use Rattle.types.specs.Answers.{numberOf}
 use Rattle.types.specs.declared.Place.{Place}
 use Rattle.types.specs.declared.Place.the-variants.{Pooled, Seated, Observing}
 use Rattle.rules.specs.Lists.{every, equal}
-use Rattle.rules.specs.Table.{Entry, entry, Table}
+use Rattle.rules.specs.Table.{entry, Table}
 use Rattle.rules.specs.Board.{Settings, Boundary, split, merge, Seat, Reshape, Board}
 use Rattle.rules.specs.Snapshot.{wordsOf}
 use Rattle.rules.specs.Moves.{membersOf}

@@ -10,7 +10,7 @@ use lib.Dec.{eqb, leb, leb→le, eqb→eq, eqb-refl, T}
 use lib.ListN.{length, take, drop, getD, set, take-append-drop, length-set}
 use lib.Seq.{getD-set-same, getD-set-other}
 use Rattle.rules.specs.Lists.{bitOf, keep, strike}
-use Rattle.rules.specs.Draws.{Drawn, drew, missing, tooLarge, andThen, drawIndex, exchange, shuffleFrom, shuffle}
+use Rattle.rules.specs.Draws.{drew, tooLarge, andThen, drawIndex, exchange, shuffleFrom, shuffle}
 
 -- the two outcomes of a test on two numbers, each with what it means
 pub data Alike (a b : ℕ) : Type 0 where

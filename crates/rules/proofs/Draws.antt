@@ -1,9 +1,8 @@
 -- What a finished step used of its draws: it reads them from the front, asks for no other, and misses the last one where it is taken away.
 use mathlib.Core.Path.{_≡_, refl, ap, sym, _∙_}
-use mathlib.Core.Logic.{_⊎_, inl, inr}
 use mathlib.Core.List.{List, [], _∷_, _++_, append-nil, append-assoc}
 use mathlib.Core.Option.{Option, none, some}
-use mathlib.Core.Bool.{Bool, true, false, cond, not, false≢true}
+use mathlib.Core.Bool.{Bool, true, false, cond, not}
 use Prim.Native.Nat.{ℕ, zero, suc, _+_, _-_, _≤_, _<_}
 use native.Mathlib.Omega.{arith}
 use lib.Dec.{leb}
@@ -16,7 +15,7 @@ use Rattle.types.specs.declared.Answer.{Answer}
 use Rattle.types.specs.declared.Answer.the-variants.{Done, NotWellFormed, NoRecord, NoBoundary, DrawMissing}
 use Rattle.rules.specs.Lists.{_or_, any, has}
 use Rattle.rules.specs.Table.{at, holdsAt, update}
-use Rattle.rules.specs.Board.{Kind, split, merge, Reshape, Board, onReshapes, epochOf}
+use Rattle.rules.specs.Board.{split, merge, Reshape, Board, onReshapes, epochOf}
 use Rattle.rules.specs.WellFormed.{wellFormed}
 use Rattle.rules.specs.Draws.{Drawn, drew, missing, tooLarge, andThen, drawIndex, exchange, shuffleFrom, shuffle, drawFrom}
 use Rattle.rules.specs.Moves.{poolOf, isParty, withDrainBy, boundsStand}

@@ -1,14 +1,12 @@
 -- A refusal changes nothing; over several shards it leaves what the finished ones left.
-use mathlib.Core.Path.{_≡_, refl, ap, sym, _∙_}
-use mathlib.Core.Logic.{_≢_, _⊎_, inl, inr}
+use mathlib.Core.Path.{_≡_, refl, ap, _∙_}
+use mathlib.Core.Logic.{_⊎_, inl, inr}
 use mathlib.Core.List.{List, [], _∷_, _++_}
 use mathlib.Core.Bool.{Bool, true, false}
 use Prim.Native.Nat.{ℕ, _+_, _-_}
-use native.Mathlib.Omega.{arith}
 use lib.ListN.{length}
 use Rattle.types.specs.Numbers.{Shard}
-use Rattle.types.specs.declared.Answer.{Answer}
-use Rattle.types.specs.declared.Answer.the-variants.{Done, NotWellFormed}
+use Rattle.types.specs.declared.Answer.the-variants.{Done}
 use Rattle.rules.specs.Board.{Board, split, merge}
 use Rattle.rules.specs.WellFormed.{wellFormed}
 use Rattle.rules.specs.Turns.{Result, Turn, finished, refused, alone, inTurn, batch}

@@ -1,16 +1,15 @@
 -- Tests of lists, as counts.
-use mathlib.Core.Path.{_≡_, refl, ap, sym, _∙_}
+use mathlib.Core.Path.{_≡_, refl, sym, _∙_}
 use mathlib.Core.List.{List, [], _∷_}
 use mathlib.Core.Option.{Option, none, some}
-use mathlib.Core.Bool.{Bool, true, false, cond, not, true≢false}
-use Prim.Native.Nat.{ℕ, _+_, _≤_}
+use mathlib.Core.Bool.{Bool, true, false, true≢false}
+use Prim.Native.Nat.{ℕ, _≤_}
 use native.Mathlib.Omega.{arith}
-use lib.Dec.{leb}
-use Rattle.rules.specs.Lists.{_and_, _or_, bitOf, any, has, distinct, insert, sort}
-use Rattle.rules.specs.Table.{Table, at, stands, holdsAt, keysWhere, isSome}
-use Rattle.rules.proofs.Counts.{Alike, same, apart, alike, hit, hit-same, hit-apart, hit-most, occ}
-use Rattle.rules.proofs.Tables.{From, tally, occ-keysWhere}
-use Rattle.rules.proofs.Tests.{and-parts, and-joins, or-left, or-right, of-not, not-of, le-of, of-le, lt-of-no, has-occ}
+use Rattle.rules.specs.Lists.{_and_, _or_, bitOf, any, has}
+use Rattle.rules.specs.Table.{Table, at, stands, holdsAt, isSome}
+use Rattle.rules.proofs.Counts.{Alike, same, apart, alike, hit-same, hit-apart, occ}
+use Rattle.rules.proofs.Tables.{tally}
+use Rattle.rules.proofs.Tests.{or-left, or-right, le-of, of-le, lt-of-no, has-occ}
 
 -- what is never 1 or more is 0
 pub zero-unless : (n : ℕ) → (1 ≤ n → ⊥) → n ≡ 0
@@ -110,13 +109,3 @@ pub in-none : (f : ℕ → Bool) (l : List ℕ) → ((x : ℕ) → 1 ≤ occ x l
 unfolding any occ _or_
 in-none f [] h = refl
 in-none f (y ∷ l) h = rw (h y (omega (arith, hit-same y))) (in-none f l (λ x o. h x (omega arith)))
-
--- a sort neither loses nor makes nor doubles a number
-occ-insert : (x y : ℕ) (l : List ℕ) → occ x (insert y l) ≡ hit x y + occ x l
-unfolding insert occ
-occ-insert x y [] = refl
-occ-insert x y (z ∷ l) = go (leb y z) (occ-insert x y l)
-  where
-    go : (c : Bool) → occ x (insert y l) ≡ hit x y + occ x l → occ x (cond c (y ∷ z ∷ l) (z ∷ insert y l)) ≡ hit x y + occ x (z ∷ l)
-    go true h = refl
-    go false h = omega arith

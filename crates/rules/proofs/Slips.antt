@@ -1,12 +1,12 @@
 -- The three slips that document 01 rules out, as statements over every board.
-use mathlib.Core.Path.{_≡_, refl, ap, sym, _∙_}
+use mathlib.Core.Path.{_≡_, refl, ap, _∙_}
 use mathlib.Core.Logic.{_≢_, _⊎_, inl, inr}
-use mathlib.Core.List.{List, [], _∷_, _++_}
-use mathlib.Core.Option.{Option, none, some, Option·map}
-use mathlib.Core.Bool.{Bool, true, false, cond, not}
-use Prim.Native.Nat.{ℕ, _+_, _-_, _≤_}
+use mathlib.Core.List.{List, []}
+use mathlib.Core.Option.{none, some, Option·map}
+use mathlib.Core.Bool.{Bool, true, false, cond}
+use Prim.Native.Nat.{ℕ, _≤_}
 use native.Mathlib.Omega.{arith}
-use lib.Dec.{eqb, leb}
+use lib.Dec.{eqb}
 use lib.ListN.{length, take, drop}
 use Rattle.types.specs.Numbers as numbers
 use Rattle.types.specs.Shards.{leftOf, rightOf, quorum}
@@ -14,19 +14,18 @@ use Rattle.types.specs.Places.{isSeatedOn, isObserving, movedTo, seatedFromWatc
 use Rattle.types.specs.declared.ShardId.{ShardId}
 use Rattle.types.specs.declared.Epoch.{Epoch}
 use Rattle.types.specs.declared.Place.{Place}
-use Rattle.types.specs.declared.Place.the-variants.{Pooled, Seated, Observing, Short, Other}
-use Rattle.types.specs.declared.Answer.the-variants.{NotWellFormed}
-use Rattle.rules.specs.Table.{Table, at, each, update}
+use Rattle.types.specs.declared.Place.the-variants.{Seated}
+use Rattle.rules.specs.Table.{Table, at, update}
 use Rattle.rules.specs.Board.{Kind, split, Seat, Reshape, Board, epochOf, sizeOf}
 use Rattle.rules.specs.WellFormed.{wellFormed}
-use Rattle.rules.specs.Draws.{Drawn, drew, shuffle}
-use Rattle.rules.specs.Moves.{oldShards, newShards, place, join, putOn, takeOff, quit, giveUpSeat, isParty, abortRotations, forAll}
-use Rattle.rules.specs.Turns.{Result, Turn, finished, refused, Fault, checked, drawn, alone}
+use Rattle.rules.specs.Draws.{drew, shuffle}
+use Rattle.rules.specs.Moves.{oldShards, newShards, place, join, putOn, takeOff, quit, giveUpSeat, isParty, abortRotations}
+use Rattle.rules.specs.Turns.{Result, finished, checked, alone}
 use Rattle.rules.specs.Places.{leave, leaveTurn, leaveFrom, leaveFromSeat, leaveSeat}
 use Rattle.rules.specs.Reshapes.{halfUp}
 use Rattle.rules.specs.Schedule as schedule
 use Rattle.rules.specs.Cut as cut
-use Rattle.rules.proofs.Counts.{Alike, same, apart, alike, eqb-apart, eqb-same}
+use Rattle.rules.proofs.Counts.{Alike, same, apart, alike}
 use Rattle.rules.proofs.Tables.{at-each}
 use Rattle.rules.proofs.KeptTables.{at-other}
 use Rattle.rules.proofs.Tests.{by-cases, le-of, and-parts}

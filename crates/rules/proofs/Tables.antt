@@ -1,14 +1,14 @@
 -- Laws of tables: what stands at a key after each operation, and what that does to a number told of it.
 use mathlib.Core.Path.{_≡_, refl, ap, sym, subst, _∙_}
 use mathlib.Core.Logic.{_≢_}
-use mathlib.Core.List.{List, [], _∷_}
+use mathlib.Core.List.{[], _∷_}
 use mathlib.Core.Option.{Option, none, some, Option·map, Option·none-ne-some, Option·some-injective}
 use mathlib.Core.Bool.{Bool, true, false, cond}
 use Prim.Native.Nat.{ℕ, suc, _+_, _*_, _≤_, _<_}
 use native.Mathlib.Omega.{arith}
-use lib.Dec.{eqb, ltb, ltb→lt, nltb→le, T}
+use lib.Dec.{eqb, ltb, ltb→lt, nltb→le}
 use Rattle.rules.specs.Lists.{bitOf}
-use Rattle.rules.specs.Table.{Entry, entry, Table, at, put, remove, each, update, keysWhere}
+use Rattle.rules.specs.Table.{Table, at, put, remove, each, update, keysWhere}
 use Rattle.rules.proofs.Counts.{Alike, same, apart, alike, eqb-same, eqb-apart, hit, hit-same, hit-apart, occ}
 
 module _ {A : Type 0} where

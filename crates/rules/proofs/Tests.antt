@@ -2,17 +2,17 @@
 use mathlib.Core.Path.{_≡_, refl, sym, subst, _∙_}
 use mathlib.Core.Logic.{_⊎_, inl, inr}
 use mathlib.Core.List.{List, [], _∷_, _++_}
-use mathlib.Core.Option.{Option, none, some, Option·some-injective, Option·none-ne-some}
+use mathlib.Core.Option.{none, some, Option·some-injective, Option·none-ne-some}
 use mathlib.Core.Bool.{Bool, true, false, cond, not, true≢false, false≢true}
-use Prim.Native.Nat.{ℕ, zero, suc, _+_, _≤_, _<_}
+use Prim.Native.Nat.{ℕ, suc, _+_, _≤_, _<_}
 use native.Mathlib.Omega.{arith}
 use native.Mathlib.Nat.{zero-add}
-use lib.Dec.{eqb, leb, ltb, leb→le, le→leb, eqb→eq, nleb→lt, T}
+use lib.Dec.{eqb, leb, leb→le, le→leb, eqb→eq, nleb→lt}
 use Rattle.rules.specs.Lists.{_and_, _or_, allOf, every, any, has, equal}
-use Rattle.rules.specs.Table.{Entry, entry, Table, at, stands, holdsAt, isSome}
+use Rattle.rules.specs.Table.{Entry, entry, Table, at}
 use Rattle.rules.specs.WellFormed.{rising, keyBefore}
-use Rattle.rules.proofs.Counts.{Alike, same, apart, alike, T-true, eqb-same, eqb-apart, hit, hit-same, hit-apart, occ}
-use Rattle.rules.proofs.Tables.{From, From-weaken, at-below}
+use Rattle.rules.proofs.Counts.{Alike, same, apart, alike, T-true, eqb-same, hit, hit-same, hit-apart, occ}
+use Rattle.rules.proofs.Tables.{From, at-below}
 
 -- ---- both, either, not, all
 

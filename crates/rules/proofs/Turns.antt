@@ -10,7 +10,7 @@ use lib.ListN.{length}
 use Rattle.types.specs.Numbers.{Shard, Id}
 use Rattle.types.specs.Places.{drawnTo}
 use Rattle.types.specs.declared.Answer.{Answer}
-use Rattle.types.specs.declared.Answer.the-variants.{Done, NotWellFormed, NoRoom}
+use Rattle.types.specs.declared.Answer.the-variants.{NotWellFormed, NoRoom}
 use Rattle.rules.specs.Table.{at}
 use Rattle.rules.specs.Board.{Reshape, Board, epochOf}
 use Rattle.rules.specs.WellFormed.{wellFormed}

@@ -1,6 +1,6 @@
 -- A call: one of the fifteen steps with its arguments and its draws.
 use Prim.Native.Nat.{ℕ}
-use mathlib.Core.List.{List, [], _∷_}
+use mathlib.Core.List.{List}
 use Rattle.types.specs.Numbers.{Shard, Id}
 use Rattle.rules.specs.Board.{Board}
 use Rattle.rules.specs.Turns.{Result}

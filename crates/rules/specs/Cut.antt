@@ -1,17 +1,16 @@
 -- The steps that carry a reshape out: cut splits, cut merges.
 use Prim.Native.Nat.{ℕ}
 use mathlib.Core.List.{List, [], _∷_, _++_}
-use mathlib.Core.Option.{Option, none, some}
-use mathlib.Core.Bool.{Bool, true, false, cond, not}
+use mathlib.Core.Option.{none, some}
+use mathlib.Core.Bool.{Bool, false, cond, not}
 use lib.Dec.{eqb, leb}
 use lib.ListN.{length}
 use Rattle.types.specs.Numbers.{Shard, Id, Epoch, Height}
 use Rattle.types.specs.Shards.{leftOf, rightOf}
 use Rattle.types.specs.Places.{isSeatedOn, isObserving, pooled, movedTo, keptOn, seatedFromWatch}
-use Rattle.types.specs.declared.Place.{Place}
 use Rattle.types.specs.declared.Answer.the-variants.{NoRecord, NoBoundary, NoRoom}
 use Rattle.rules.specs.Lists.{_and_, _or_, every, keep}
-use Rattle.rules.specs.Table.{Entry, Table, at, stands, put, remove, keysWhere, keysOf}
+use Rattle.rules.specs.Table.{Table, at, stands, put, remove, keysWhere, keysOf}
 use Rattle.rules.specs.Board.{Kind, split, merge, Seat, Reshape, Board, mostCommittees, mostBounds, onCommittees, onBounds, onRotations, onReshapes, epochOf}
 use Rattle.rules.specs.Moves.{membersOf, place, putOn, forAll, dropRotations, isKind, oldShards, newShards, boundsStand, newBoundary, heightOf}
 use Rattle.rules.specs.Turns.{Result, Turn, finished, Fault, _gives_, checked, batch}

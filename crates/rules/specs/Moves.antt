@@ -1,7 +1,7 @@
 -- The moves that all steps are made of.
-use Prim.Native.Nat.{ℕ, _+_, _*_}
+use Prim.Native.Nat.{_+_}
 use mathlib.Core.List.{List, [], _∷_, _++_}
-use mathlib.Core.Option.{Option, none, some}
+use mathlib.Core.Option.{none, some}
 use mathlib.Core.Bool.{Bool, true, false, cond, not}
 use lib.Dec.{eqb, leb, ltb}
 use lib.ListN.{length}
@@ -11,7 +11,7 @@ use Rattle.types.specs.Places.{isPooled, isSeatedOn, pooled, setToWatch}
 use Rattle.types.specs.declared.Place.{Place}
 use Rattle.rules.specs.Lists.{_and_, _or_, every, any, keep, has, strike}
 use Rattle.rules.specs.Table.{Table, at, stands, holdsAt, put, remove, update, keysWhere}
-use Rattle.rules.specs.Board.{Boundary, Rotation, Kind, split, merge, Seat, Reshape, Board, mostCommittees, mostMembers, onMachines, onCommittees, onBounds, onRotations, onReshapes, epochOf}
+use Rattle.rules.specs.Board.{Boundary, Rotation, Kind, split, merge, Seat, Reshape, Board, mostCommittees, mostMembers, onMachines, onCommittees, onRotations, onReshapes, epochOf}
 use Rattle.rules.specs.WellFormed.{rotationBefore}
 
 -- ---- machines and committees

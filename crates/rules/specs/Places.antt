@@ -1,8 +1,8 @@
 -- The steps on places and committees: tick, leave, rotate, resolve, time out.
 use Prim.Native.Nat.{ℕ, _+_, _%_}
 use mathlib.Core.List.{List, [], _∷_}
-use mathlib.Core.Option.{Option, none, some}
-use mathlib.Core.Bool.{Bool, true, false, cond, not}
+use mathlib.Core.Option.{none, some}
+use mathlib.Core.Bool.{Bool, false, cond, not}
 use lib.Dec.{eqb, leb, ltb}
 use lib.ListN.{length}
 use Rattle.types.specs.Numbers.{Shard, Id}
@@ -15,7 +15,7 @@ use Rattle.rules.specs.Lists.{_and_, count, keep}
 use Rattle.rules.specs.Table.{at, stands, holdsAt, each, countWhere, isSome}
 use Rattle.rules.specs.Board.{Settings, Rotation, split, merge, Reshape, Board, mostRotations, lastEpoch, onSettings, onMachines, onRotations, epochOf, sizeOf}
 use Rattle.rules.specs.WellFormed.{isShard}
-use Rattle.rules.specs.Moves.{says, membersOf, place, takeOff, forAll, pooledFrom, hasParty, isParty, isOn, openRotation, dropFirst, isKind, reshapeAt, giveUpSeat}
+use Rattle.rules.specs.Moves.{says, place, takeOff, forAll, pooledFrom, hasParty, isParty, isOn, openRotation, dropFirst, isKind, reshapeAt, giveUpSeat}
 use Rattle.rules.specs.Turns.{Result, Turn, finished, refused, _gives_, checked, unlessWellFormed, alone, poolDraw}
 
 -- ---- TICK: 'epoch plus one'

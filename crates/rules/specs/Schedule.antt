@@ -1,11 +1,11 @@
 -- The steps that set a terminal: schedule splits, schedule merges.
 use Prim.Native.Nat.{ℕ, _+_}
 use mathlib.Core.List.{List, [], _∷_}
-use mathlib.Core.Option.{Option, none, some}
-use mathlib.Core.Bool.{Bool, true, false, cond, not}
+use mathlib.Core.Option.{none, some}
+use mathlib.Core.Bool.{Bool, cond, not}
 use lib.Dec.{eqb, leb}
 use lib.ListN.{length, take, drop}
-use Rattle.types.specs.Numbers.{Shard, Id, Epoch}
+use Rattle.types.specs.Numbers.{Shard, Id}
 use Rattle.types.specs.Shards.{leftOf, rightOf, quorum}
 use Rattle.types.specs.Places.{isSeatedOn, isReady}
 use Rattle.types.specs.declared.Answer.the-variants.{NoBoundary}

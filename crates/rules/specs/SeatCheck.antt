@@ -1,7 +1,6 @@
 -- The seat check: document 01's sentence, clause by clause.
-use Prim.Native.Nat.{ℕ, _+_}
+use Prim.Native.Nat.{_+_}
 use mathlib.Core.List.{List, [], _∷_}
-use mathlib.Core.Option.{Option, none, some}
 use mathlib.Core.Bool.{Bool, true, false, not}
 use lib.Dec.{eqb}
 use Rattle.types.specs.Numbers.{Shard, Id}
@@ -9,7 +8,7 @@ use Rattle.types.specs.Places.{isSeatedOn, observes}
 use Rattle.types.specs.declared.Place.{Place}
 use Rattle.types.specs.declared.Place.the-variants.{Pooled, Seated, Observing, Short, Other}
 use Rattle.rules.specs.Lists.{_and_, _or_, allOf, bitOf, every, any, has, distinct}
-use Rattle.rules.specs.Table.{Entry, Table, stands, holdsAt, keysOf}
+use Rattle.rules.specs.Table.{Entry, stands, holdsAt, keysOf}
 use Rattle.rules.specs.Board.{Rotation, split, Reshape, Board}
 use Rattle.rules.specs.WellFormed.{wellFormed}
 use Rattle.rules.specs.Moves.{says, membersOf, isOn, isKind, overlaps, committeesFit, boundsStand}

@@ -1,17 +1,15 @@
 -- A series of calls, and what demand 3 tells from the boards before and after each of them.
-use Prim.Native.Nat.{ℕ}
 use mathlib.Core.List.{List, [], _∷_}
 use mathlib.Core.Option.{Option, none, some, Option·map}
 use mathlib.Core.Bool.{Bool, true, false, cond, not}
 use lib.Dec.{eqb}
-use lib.ListN.{length}
 use Rattle.types.specs.Numbers.{Shard, Id, Epoch}
 use Rattle.types.specs.Answers.{numberOf}
 use Rattle.types.specs.Places.{isPooled, isObserving, pooled}
 use Rattle.types.specs.declared.Place.{Place}
 use Rattle.types.specs.declared.Place.the-variants.{Pooled, Seated, Observing, Short, Other}
 use Rattle.rules.specs.Lists.{_and_, _or_, has, keep, strike}
-use Rattle.rules.specs.Table.{Table, at, each, update}
+use Rattle.rules.specs.Table.{at, each, update}
 use Rattle.rules.specs.Board.{split, Board, onMachines, onCommittees, onReshapes, epochOf}
 use Rattle.rules.specs.Moves.{reshapeAt, withSeats}
 use Rattle.rules.specs.Reshapes.{cohortOf}

@@ -1,7 +1,7 @@
 -- What a step gives: a refusal has no board to give, so it changes nothing.
 use Prim.Native.Nat.{ℕ, _+_, _-_}
 use mathlib.Core.List.{List, [], _∷_}
-use mathlib.Core.Option.{Option, none, some}
+use mathlib.Core.Option.{none, some}
 use mathlib.Core.Bool.{Bool, true, false, cond, not}
 use lib.ListN.{length}
 use Rattle.types.specs.Numbers.{Shard, Id}

@@ -1,17 +1,15 @@
 -- A draw and a shuffle, as the code has them: a turn, and each way out.
-use Prim.Native.Nat.{ℕ, zero, suc, _+_, _-_, _≤_, _<_}
+use Prim.Native.Nat.{ℕ, suc, _+_, _-_, _≤_, _<_}
 use mathlib.Core.Path.{_≡_, refl, ap, sym, _∙_, subst}
-use mathlib.Core.List.{List, [], _∷_, _++_}
-use mathlib.Core.Bool.{Bool, true, false, cond}
+use mathlib.Core.List.{List}
+use mathlib.Core.Bool.{cond}
 use native.Mathlib.Omega.{arith}
 use native.Mathlib.Numerals.{add-one}
 use borrow.Author.Tests.{le-leb, lt-leb}
-use lib.Dec.{leb}
 use lib.ListN.{length, getD, set, drop, length-drop, drop-of-length-le}
 use lib.Seq.{drop-cons}
 use Rattle.rules.specs.Draws.{Drawn, drew, missing, tooLarge, andThen, drawIndex, exchange, shuffleFrom}
-use Rattle.sampling.specs.Reads.{readTo, GivesIndex, GivesShuffle, mixedFrom}
-use Rattle.sampling.specs.declared.Reader.{Reader}
+use Rattle.sampling.specs.Reads.{GivesIndex, GivesShuffle, mixedFrom}
 use Rattle.sampling.specs.declared.Drawn.the-variants as drawn
 use Rattle.sampling.specs.declared.Shuffled.{Shuffled}
 use Rattle.sampling.specs.declared.Shuffled.the-variants as shuffled
