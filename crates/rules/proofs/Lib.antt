@@ -23,3 +23,5 @@ pub mod KeptReshapes
 pub mod KeptSchedule
 pub mod KeptCut
 pub mod Kept
+pub mod StampsTurns
+pub mod Stamps
