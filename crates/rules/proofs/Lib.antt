@@ -25,3 +25,5 @@ pub mod KeptCut
 pub mod Kept
 pub mod StampsTurns
 pub mod Stamps
+pub mod LapseCohorts
+pub mod Lapse
