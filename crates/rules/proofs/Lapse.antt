@@ -136,7 +136,7 @@ module _ (t : Shard) (ids : List Id) (b : Board) (ok : seatCheck b ≡ true) (h 
 
   -- each of the cohort observes the target, so it is pooled
   all-pooled : each (λ x p. cond (has x ids) (pooledFrom (observes t) p) p) (b .machines) ≡ each (λ x p. cond (has x ids) (pooled p) p) (b .machines)
-  all-pooled = each-alike _ _ 0 (b .machines) (good-of b (formed t b ok) .machines .rising) (λ x p e. go x p e (has x ids) refl)
+  all-pooled = each-alike _ _ 0 (b .machines) (good-of b (formed b ok) .machines .rising) (λ x p e. go x p e (has x ids) refl)
     where
       go : (x : Id) (p : Place) → at x (b .machines) ≡ some p → (c : Bool) → has x ids ≡ c → cond c (pooledFrom (observes t) p) p ≡ cond c (pooled p) p
       go x p e true f =
@@ -157,8 +157,8 @@ module _ (t : Shard) (ids : List Id) (b : Board) (ok : seatCheck b ≡ true) (h 
   unfolding calls.answerTo reshapes.lapse alone checked
   cohort-lapses =
       let s = split-of t ids b h in
-      let target : isTarget t ≡ true = fit-at (good-of b (formed t b ok)) t (s .reshape) (s .there) .target in
-      rw (formed t b ok, target, holds-at t (isKind split) (b .reshapes) (s .reshape) (s .there), s .is-split, all-observe, released-sent)
+      let target : isTarget t ≡ true = fit-at (good-of b (formed b ok)) t (s .reshape) (s .there) .target in
+      rw (formed b ok, target, holds-at t (isKind split) (b .reshapes) (s .reshape) (s .there), s .is-split, all-observe, released-sent)
 
 -- ---- a series
 

@@ -136,9 +136,13 @@ unfolding keysOf keysWhere each
 keys-each f [] = refl
 keys-each f (e ∷ s) = ap (λ m. e .key ∷ m) (keys-each f s)
 
--- ---- what the seat check tells of a cohort
+-- ---- what the seat check tells
 
--- each of it observes the target
+pub formed : (b : Board) → seatCheck b ≡ true → wellFormed b ≡ true
+unfolding seatCheck
+formed b ok = all-parts _ ok .0
+
+-- each of a cohort observes its target
 pub cohort-observes : (t : Shard) (ids : List Id) (b : Board) → seatCheck b ≡ true → Has t ids b → every (says (observes t) b) ids ≡ true
 unfolding seatCheck cohortsWatch
 cohort-observes t ids b ok h =
@@ -150,7 +154,7 @@ cohort-observes t ids b ok h =
     go c d (inl n) e = absurd (true≢false (sym e ∙ of-not _ n))
     go c d (inr w) e = w
 
--- who does not observe it is not struck from its cohort
+-- who does not observe a target is not struck from its cohort
 strike-other : (t : Shard) (ids : List Id) (b : Board) → seatCheck b ≡ true → Has t ids b → (x : Id) → says (observes t) b x ≡ false → strike x ids ≡ ids
 strike-other t ids b ok h x n = strike-absent x ids (go (leb 1 (occ x ids)) refl)
   where
@@ -165,6 +169,32 @@ taken t ids b g h free =
     let s = split-of t ids b h in
     let o : occ t (keysOf (b .reshapes)) ≡ 1 = occ-keysWhere (λ r. true) t 0 (b .reshapes) (g .reshapes .rising) ∙ rw (s .there) in
     absurd (true≢false (sym (any-has (overlaps t) (keysOf (b .reshapes)) t (omega arith) (rw (eqb-same t))) ∙ of-not _ free))
+
+-- ---- moves of a turn
+
+-- a cut takes the record of its target away
+recast-reshapes : (k : Kind) (u : Shard) (height : Height) (c : Board) → cut.recast k u height c .reshapes ≡ remove u (c .reshapes)
+unfolding cut.recast
+recast-reshapes k u height c =
+    forAll-keeps (λ d. d .reshapes ≡ remove u (c .reshapes)) _ (λ s d e. e) (newShards k u) _
+    (forAll-keeps (λ d. d .reshapes ≡ remove u (c .reshapes)) cut.endShard (λ s d e. e) (oldShards k u) _ refl)
+
+module _ (t : Shard) (ids : List Id) where
+  abort-has : (s : Shard) (c : Board) → Has t ids c → Has t ids (abortRotations s c)
+  unfolding abortRotations takeOff quit place
+  abort-has s c g = forAll-keeps (Has t ids) _ (λ x d f. f) _ c g
+
+  drain-has : (u : Shard) (e : Epoch) (c : Board) → Has t ids c → Has t ids (onReshapes (update u (withDrainBy e)) c)
+  unfolding cohortIn isKind
+  drain-has u e c = has-update t ids u (withDrainBy e) (λ r. refl) (c .reshapes)
+
+  scheduled-has : (u : Shard) (q : Reshape) (left right : List Id) (c : Board) → Has t ids c → Has t ids (schedule.scheduled u q left right c)
+  unfolding schedule.scheduled cohortIn isKind
+  scheduled-has u q left right c g = forAll-keeps (Has t ids) _ (λ s d f. f) (oldShards (q .kind) u) _ (has-update t ids u _ (λ r. refl) _ g)
+
+  -- another reshape is cut
+  recast-apart : (k : Kind) (u : Shard) (height : Height) (c : Board) → t ≢ u → Has t ids c → Has t ids (cut.recast k u height c)
+  recast-apart k u height c n g = rw (recast-reshapes k u height c, at-remove t u (c .reshapes), eqb-apart t u n) g
 
 -- ---- calls that leave the cohort as it is
 
@@ -210,44 +240,21 @@ module _ (t : Shard) (ids : List Id) (b : Board) (h : Has t ids b) where
   unfolding places.timeOut
   timeOut-has = step-keeps (Has t ids) _ b _ _ h (λ p. h)
 
-  -- ---- SCHEDULE
-
-  abort-has : (s : Shard) (c : Board) → Has t ids c → Has t ids (abortRotations s c)
-  unfolding abortRotations takeOff quit place
-  abort-has s c g = forAll-keeps (Has t ids) _ (λ x d f. f) _ c g
-
-  drain-has : (u : Shard) (e : Epoch) (c : Board) → Has t ids c → Has t ids (onReshapes (update u (withDrainBy e)) c)
-  unfolding cohortIn isKind
-  drain-has u e c = has-update t ids u (withDrainBy e) (λ r. refl) (c .reshapes)
-
-  scheduled-has : (u : Shard) (q : Reshape) (left right : List Id) (c : Board) → Has t ids c → Has t ids (schedule.scheduled u q left right c)
-  unfolding schedule.scheduled cohortIn isKind
-  scheduled-has u q left right c g = forAll-keeps (Has t ids) _ (λ s d f. f) (oldShards (q .kind) u) _ (has-update t ids u _ (λ r. refl) _ g)
-
   scheduleSplits-has : (draws : List ℕ) → Has t ids (schedule.scheduleSplits draws b .board)
-  scheduleSplits-has draws = scheduleSplits-keeps (Has t ids) abort-has drain-has scheduled-has draws b h
+  scheduleSplits-has draws = scheduleSplits-keeps (Has t ids) (abort-has t ids) (drain-has t ids) (scheduled-has t ids) draws b h
 
   scheduleMerges-has : Has t ids (schedule.scheduleMerges b .board)
-  scheduleMerges-has = scheduleMerges-keeps (Has t ids) abort-has drain-has scheduled-has b h
-
-  -- ---- CUT
-
-  -- a cut takes the record of its target away, and no other
-  recast-has : (k : Kind) (u : Shard) (height : Height) (c : Board) → t ≢ u → Has t ids c → Has t ids (cut.recast k u height c)
-  unfolding cut.recast
-  recast-has k u height c n g =
-      forAll-keeps (Has t ids) _ (λ s d f. f) (newShards k u) _ (forAll-keeps (Has t ids) cut.endShard (λ s d f. f) (oldShards k u) _
-      (rw (at-remove t u (c .reshapes), eqb-apart t u n) g))
+  scheduleMerges-has = scheduleMerges-keeps (Has t ids) (abort-has t ids) (drain-has t ids) (scheduled-has t ids) b h
 
   -- where the split still stands, its cohort is as it was
   cutSplits-has : reshapeAt split t (cut.cutSplits b .board) ≡ true → Has t ids (cut.cutSplits b .board)
-  unfolding cut.recast putOn join place
-  cutSplits-has = cutSplits-keeps Uncut (λ s x c g. g) (λ s q x c g. g) b (λ u o height c g. recasts u height c g) (λ e. h)
+  unfolding putOn join place
+  cutSplits-has = cutSplits-keeps Uncut (λ s x c g. g) (λ s q x c g. g) b (λ u o height c g. rw (recast-reshapes split u height c) (removed u c g (alike t u))) (λ e. h)
     where
       Uncut : Board → Type 0
       Uncut c = reshapeAt split t c ≡ true → Has t ids c
 
-      removed : (u : Shard) (c : Board) → Uncut c → Alike t u → Uncut (onReshapes (remove u) c)
+      removed : (u : Shard) (c : Board) → Uncut c → Alike t u → holdsAt t (isKind split) (remove u (c .reshapes)) ≡ true → HasIn t ids (remove u (c .reshapes))
       removed u c g (same p q) e =
           let f = at-holds t (isKind split) (remove u (c .reshapes)) e in
           absurd (Option·none-ne-some (f .0) (rw (at-remove t u (c .reshapes), q) at (f .1)))
@@ -255,12 +262,10 @@ module _ (t : Shard) (ids : List Id) (b : Board) (h : Has t ids b) where
           let k : at t (remove u (c .reshapes)) ≡ at t (c .reshapes) = at-remove t u (c .reshapes) ∙ rw q in
           rw k (g (sym (holds-same t (isKind split) (remove u (c .reshapes)) (c .reshapes) k) ∙ e))
 
-      recasts : (u : Shard) (height : Height) (c : Board) → Uncut c → Uncut (cut.recast split u height c)
-      recasts u height c g = forAll-keeps Uncut _ (λ s d f. f) (newShards split u) _ (forAll-keeps Uncut cut.endShard (λ s d f. f) (oldShards split u) _ (removed u c g (alike t u)))
-
+  -- a merge that is cut is no split
   cutMerges-has : Good b → Has t ids (cut.cutMerges b .board)
   unfolding putOn join place cut.due
-  cutMerges-has g = cutMerges-keeps (Has t ids) (λ x c f. f) (λ u q x c f. f) b (λ u o height c. recast-has merge u height c (other u o)) h
+  cutMerges-has g = cutMerges-keeps (Has t ids) (λ x c f. f) (λ u q x c f. f) b (λ u o height c. recast-apart t ids merge u height c (other u o)) h
     where
       other : (u : Shard) → 1 ≤ occ u (cut.due merge b) → t ≢ u
       other u o e =
@@ -386,10 +391,6 @@ held-as t b c k none h = tt
 held-as t b c k (some ids) h = k ids h
 
 module _ (t : Shard) (b : Board) (ok : seatCheck b ≡ true) where
-  pub formed : wellFormed b ≡ true
-  unfolding seatCheck
-  formed = all-parts _ ok .0
-
   held-leave : (x : Id) (draws : List ℕ) (drawn : Option (List Id)) → Held t drawn b → Held t (drawnAfter t (calls.leave x draws) b drawn) (next (calls.leave x draws) b)
   unfolding calls.answerTo drawnAfter
   held-leave x draws none h = by-cases (λ o. Held t o (places.leave x draws b .board)) (isDone (calls.leave x draws) b) none none (λ e. tt) (λ e. tt)
@@ -398,10 +399,10 @@ module _ (t : Shard) (b : Board) (ok : seatCheck b ≡ true) where
       go : (c : Bool) → says (observes t) b x ≡ c → Held t (cond (isDone (calls.leave x draws) b) (some (strike x ids)) (some ids)) (places.leave x draws b .board)
       go true e =
           let f = at-holds x (observes t) (b .machines) e in
-          rw (observer-leaves t b x draws (f .0) formed (f .1) (f .2)) (leaver-struck t ids b x h)
+          rw (observer-leaves t b x draws (f .0) (formed b ok) (f .1) (f .2)) (leaver-struck t ids b x h)
       go false e = rw (strike-other t ids b ok h x e, cond-const) (leave-has t ids b h x draws e)
 
-  -- a call on the split at u, which where it is done makes something new of the one at t
+  -- a call for a split at u that changes the cohort at t only where u is t and the call is done
   held-at : (u : Shard) (r : Result) (new drawn : Option (List Id)) → (r .answer ≡ Done) ⊎ Untouched b r → (t ≢ u → (ids : List Id) → Has t ids b → Has t ids (r .board)) → (u ≡ t → eqb (numberOf (r .answer)) 0 ≡ true → Held t new (r .board))
       → Held t drawn b → Held t (cond (eqb u t and eqb (numberOf (r .answer)) 0) new drawn) (r .board)
   unfolding _and_
@@ -416,7 +417,7 @@ module _ (t : Shard) (b : Board) (ok : seatCheck b ≡ true) where
   held-drawCohort u draws drawn =
       held-at u (reshapes.drawCohort u draws b) _ drawn (refusal-changes-nothing (calls.drawCohort u draws) b)
       (λ n ids. drawn-apart t ids u draws b n)
-      (λ p d. rw p (split-has t _ (drawn-split t draws b formed (rw p at d))))
+      (λ p d. rw p (split-has t _ (drawn-split t draws b (formed b ok) (rw p at d))))
 
   held-lapse : (u : Shard) (drawn : Option (List Id)) → Held t drawn b → Held t (drawnAfter t (calls.lapse u) b drawn) (next (calls.lapse u) b)
   unfolding calls.answerTo drawnAfter
@@ -429,8 +430,8 @@ module _ (t : Shard) (b : Board) (ok : seatCheck b ≡ true) where
   pub held-call : (c : calls.Call) (drawn : Option (List Id)) → Held t drawn b → Held t (drawnAfter t c b drawn) (next c b)
   unfolding calls.answerTo drawnAfter places.tick
   held-call calls.tick = held-as t b _ (λ ids h. step-keeps (Has t ids) _ b _ _ h (λ p. h))
-  held-call (calls.admitSplit u) = held-as t b _ (λ ids h. admitSplit-has t ids b h (good-of b formed) u)
-  held-call (calls.admitMerge u draws) = held-as t b _ (λ ids h. admitMerge-has t ids b h (good-of b formed) u draws)
+  held-call (calls.admitSplit u) = held-as t b _ (λ ids h. admitSplit-has t ids b h (good-of b (formed b ok)) u)
+  held-call (calls.admitMerge u draws) = held-as t b _ (λ ids h. admitMerge-has t ids b h (good-of b (formed b ok)) u draws)
   held-call (calls.markSeatReady u x) = held-as t b _ (λ ids h. markSeatReady-has t ids b h u x)
   held-call (calls.markQuiet u side) = held-as t b _ (λ ids h. markQuiet-has t ids b h u side)
   held-call (calls.drawCohort u draws) = held-drawCohort u draws
@@ -438,7 +439,7 @@ module _ (t : Shard) (b : Board) (ok : seatCheck b ≡ true) where
   held-call (calls.scheduleSplits draws) = held-as t b _ (λ ids h. scheduleSplits-has t ids b h draws)
   held-call calls.scheduleMerges = held-as t b _ (λ ids h. scheduleMerges-has t ids b h)
   held-call calls.cutSplits = held-cutSplits
-  held-call calls.cutMerges = held-as t b _ (λ ids h. cutMerges-has t ids b h (good-of b formed))
+  held-call calls.cutMerges = held-as t b _ (λ ids h. cutMerges-has t ids b h (good-of b (formed b ok)))
   held-call (calls.leave x draws) = held-leave x draws
   held-call (calls.rotate s v draws) = held-as t b _ (λ ids h. rotate-has t ids b h s v draws)
   held-call calls.resolve = held-as t b _ (λ ids h. resolve-has t ids b h)
