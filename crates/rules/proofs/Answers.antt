@@ -12,7 +12,7 @@ use Rattle.types.specs.declared.Place.the-variants.{Pooled, Seated, Observing, 
 use Rattle.types.specs.declared.Answer.{Answer}
 use Rattle.types.specs.declared.Answer.the-variants.{Done, NotWellFormed, OutOfRange, NoRecord, NoBoundary, NotThere, DrawMissing, DrawTooLarge, NoRoom, PoolTooSmall}
 use Rattle.rules.specs.Lists.{_and_, _or_, every, any, has}
-use Rattle.rules.specs.Table.{Table, at, holdsAt}
+use Rattle.rules.specs.Table.{Table, at}
 use Rattle.rules.specs.Board.{Kind, split, merge, Seat, Reshape, Board, sizeOf}
 use Rattle.rules.specs.WellFormed.{wellFormed}
 use Rattle.rules.specs.Draws.{Drawn, drew, missing, tooLarge, drawFrom}
@@ -131,7 +131,7 @@ module _ (x : Id) (draws : List ℕ) (b : Board) where
   unfolding places.leaveFromSeat refusalsOf has any _or_
   may-leave-seat s =
       may-cond leaving (isParty s x b) _ _ tt
-      (may-cond leaving (holdsAt s places.isScheduledSplit (b .reshapes)) _ _ tt (may-pool leaving refl refl refl s false (λ y c. c) draws _))
+      (may-cond leaving (places.isCarved s b) _ _ tt (may-pool leaving refl refl refl s false (λ y c. c) draws _))
 
   may-leave-from : (p : Place) → May leaving (places.leaveFrom p x draws b)
   unfolding places.leaveFrom

@@ -14,7 +14,7 @@ use Rattle.types.specs.declared.Place.the-variants.{Pooled, Seated, Observing, 
 use Rattle.types.specs.declared.Answer.{Answer}
 use Rattle.types.specs.declared.Answer.the-variants.{Done, NotWellFormed, NoRecord, NoBoundary, DrawMissing}
 use Rattle.rules.specs.Lists.{_or_, any, has}
-use Rattle.rules.specs.Table.{at, holdsAt, update}
+use Rattle.rules.specs.Table.{at, update}
 use Rattle.rules.specs.Board.{split, merge, Reshape, Board, onReshapes, epochOf}
 use Rattle.rules.specs.WellFormed.{wellFormed}
 use Rattle.rules.specs.Draws.{Drawn, drew, missing, tooLarge, andThen, drawIndex, exchange, shuffleFrom, shuffle, drawFrom}
@@ -194,7 +194,7 @@ unfolding places.leaveFrom places.leaveFromSeat
 leave-from-reads Pooled x b = finished-reads 0 _
 leave-from-reads (Seated s r w) x b =
     cond-reads (isParty (s .0) x b) _ _ (finished-reads 0 _)
-    (cond-reads (holdsAt (s .0) places.isScheduledSplit (b .reshapes)) _ _ (finished-reads 0 _) (pool-draw-reads (s .0) false (λ y c. c) _))
+    (cond-reads (places.isCarved (s .0) b) _ _ (finished-reads 0 _) (pool-draw-reads (s .0) false (λ y c. c) _))
 leave-from-reads (Observing s w) x b = finished-reads 0 _
 leave-from-reads Short x b = finished-reads 0 _
 leave-from-reads (Other m) x b = finished-reads 0 _

@@ -13,12 +13,12 @@ use Rattle.types.specs.Places.{isPooled, isSeatedOn, short, drawnTo, madeReady}
 use Rattle.types.specs.declared.Place.{Place}
 use Rattle.types.specs.declared.Place.the-variants.{Pooled, Seated, Observing, Short, Other}
 use Rattle.types.specs.declared.Answer.the-variants.{NoRecord}
-use Rattle.rules.specs.Table.{entry, at, each, holdsAt}
+use Rattle.rules.specs.Table.{entry, at, each}
 use Rattle.rules.specs.Board.{Settings, Rotation, split, merge, Board, mostMembers, mostRotations, lastEpoch, onRotations, epochOf}
 use Rattle.rules.specs.WellFormed.{isShard, isWord, goodSettings, goodPlace, goodMachine, goodRotation}
 use Rattle.rules.specs.Moves.{poolOf, place, join, putOn, mayJoin, hasParty, isParty, openRotation, dropFirst}
 use Rattle.rules.specs.Turns.{refused}
-use Rattle.rules.specs.Places.{nextEpoch, tick, isScheduledSplit, leaveSeat, leaveFromSeat, leaveFrom, leaveTurn, leave, mayRotate, victimFit, newRotation, rotateTurn, rotate, hasSeatsFree, isRotation, retire, close, resolved, resolve, isDue, timeOut}
+use Rattle.rules.specs.Places.{nextEpoch, tick, isCarved, leaveSeat, leaveFromSeat, leaveFrom, leaveTurn, leave, mayRotate, victimFit, newRotation, rotateTurn, rotate, hasSeatsFree, isRotation, retire, close, resolved, resolve, isDue, timeOut}
 use Rattle.rules.proofs.Counts.{Alike, same, apart, alike, occ, occ-nil}
 use Rattle.rules.proofs.Tests.{of-no, by-cases, and-parts, and-joins, all-parts, all-joins, of-not, of-le, lt-of-no}
 use Rattle.rules.proofs.KeptLists.{Ids, Ids-none, Ids-join}
@@ -65,7 +65,7 @@ unfolding leaveFromSeat
 leave-seat-finishes s x draws b ok h =
     let g = good-leaveSeat s x h in
     by-cases (Finishes Good) (isParty s x b) _ _ (λ e. on-rotations g (dropFirst (hasParty s x)) (Rota-dropFirst (hasParty s x) (g .rotations)))
-    (λ e. by-cases (Finishes Good) (holdsAt s isScheduledSplit (b .reshapes)) _ _ (λ f. g)
+    (λ e. by-cases (Finishes Good) (isCarved s b) _ _ (λ f. g)
     (λ f. poolDraw-finishes Good s false (λ y c. c) draws (leaveSeat s x b) g (λ y o m q. good-drawn g s ok y o m)))
 
 leave-finishes : (p : Place) (x : Id) (draws : List ℕ) (b : Board) → goodPlace p ≡ true → Good b → Finishes Good (leaveFrom p x draws b)

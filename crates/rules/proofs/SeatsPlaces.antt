@@ -16,11 +16,11 @@ use Rattle.types.specs.declared.Place.{Place}
 use Rattle.types.specs.declared.Place.the-variants.{Pooled, Seated, Observing, Short, Other}
 use Rattle.types.specs.declared.Answer.the-variants.{NoRecord}
 use Rattle.rules.specs.Lists.{_and_, bitOf, any, strike}
-use Rattle.rules.specs.Table.{at, stands, holdsAt, remove, each, isSome}
+use Rattle.rules.specs.Table.{at, stands, remove, each, isSome}
 use Rattle.rules.specs.Board.{Rotation, Kind, split, merge, Reshape, Board, mostRotations, onMachines, onRotations, epochOf}
 use Rattle.rules.specs.Moves.{poolOf, place, join, quit, putOn, takeOff, forAll, pooledFrom, hasParty, isParty, openRotation, dropFirst, withSeats, isKind, reshapeAt, giveUpSeat}
 use Rattle.rules.specs.Turns.{finished, refused, poolDraw}
-use Rattle.rules.specs.Places.{tick, isScheduledSplit, leaveSeat, leaveFromSeat, leaveFrom, leaveTurn, leave, inFlight, mayRotate, victimFit, newRotation, rotateTurn, rotate, isResolved, hasSeatsFree, isRotation, retire, close, resolved, resolve, isDue, timeOut}
+use Rattle.rules.specs.Places.{tick, isScheduledSplit, isCarved, leaveSeat, leaveFromSeat, leaveFrom, leaveTurn, leave, inFlight, mayRotate, victimFit, newRotation, rotateTurn, rotate, isResolved, hasSeatsFree, isRotation, retire, close, resolved, resolve, isDue, timeOut}
 use Rattle.rules.proofs.Counts.{Alike, same, apart, alike, eqb-same, hit, hit-same, hit-apart, occ, occ-single}
 use Rattle.rules.proofs.Tables.{From, From-update, occ-keysWhere, tally, tally-update, tally-remove, tally-same, tally-each, known-most}
 use Rattle.rules.proofs.Tests.{and-parts, of-not, eq-of, of-no}
@@ -213,13 +213,13 @@ leave-fill s x draws b ids on calm h k =
     sched = steady-sched (parentOf s) _ (b .reshapes) (give-steady merge x) s ∙ calm
 
 leave-seat : (s : Shard) (x : Id) (draws : List ℕ) (b : Board) → From 0 (b .machines) → 1 ≤ told (seatsAt s) b x → Seats b → Finishes Seats (leaveFromSeat s x draws b)
-unfolding leaveFromSeat isParty
-leave-seat s x draws b ids on h = go (isParty s x b) refl (holdsAt s isScheduledSplit (b .reshapes)) refl
+unfolding leaveFromSeat isCarved isParty
+leave-seat s x draws b ids on h = go (isParty s x b) refl (isCarved s b) refl
   where
     out : isParty s x b ≡ false → Seats (leaveSeat s x b)
     out p = leaveSeat-keeps s x b on (none-total (partyOf s x) (hasParty s x) (party-no s x) (b .rotations) p) h
 
-    go : (c : Bool) → isParty s x b ≡ c → (d : Bool) → holdsAt s isScheduledSplit (b .reshapes) ≡ d
+    go : (c : Bool) → isParty s x b ≡ c → (d : Bool) → isCarved s b ≡ d
         → Finishes Seats (cond c (finished 0 draws (onRotations (dropFirst (hasParty s x)) (leaveSeat s x b)))
         (cond d (finished 0 draws (leaveSeat s x b)) (poolDraw s false (λ y c. c) draws (leaveSeat s x b))))
     go true p d q = leave-party s x b on p h

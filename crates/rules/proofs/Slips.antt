@@ -1,8 +1,8 @@
 -- The three slips that document 01 rules out, as statements over every board.
 use mathlib.Core.Path.{_≡_, refl, ap, _∙_}
 use mathlib.Core.Logic.{_≢_, _⊎_, inl, inr}
-use mathlib.Core.List.{List, []}
-use mathlib.Core.Option.{none, some, Option·map}
+use mathlib.Core.List.{List}
+use mathlib.Core.Option.{some, Option·map}
 use mathlib.Core.Bool.{Bool, true, false, cond}
 use Prim.Native.Nat.{ℕ, _≤_}
 use native.Mathlib.Omega.{arith}
@@ -10,13 +10,13 @@ use lib.Dec.{eqb}
 use lib.ListN.{length, take, drop}
 use Rattle.types.specs.Numbers as numbers
 use Rattle.types.specs.Shards.{leftOf, rightOf, quorum}
-use Rattle.types.specs.Places.{isSeatedOn, isObserving, movedTo, seatedFromWatch, short}
+use Rattle.types.specs.Places.{movedTo, seatedFromWatch, short}
 use Rattle.types.specs.declared.ShardId.{ShardId}
 use Rattle.types.specs.declared.Epoch.{Epoch}
 use Rattle.types.specs.declared.Place.{Place}
 use Rattle.types.specs.declared.Place.the-variants.{Seated}
 use Rattle.rules.specs.Table.{Table, at, update}
-use Rattle.rules.specs.Board.{Kind, split, Seat, Reshape, Board, epochOf, sizeOf}
+use Rattle.rules.specs.Board.{Kind, split, Reshape, Board, epochOf, sizeOf}
 use Rattle.rules.specs.WellFormed.{wellFormed}
 use Rattle.rules.specs.Draws.{drew, shuffle}
 use Rattle.rules.specs.Moves.{oldShards, newShards, place, join, putOn, takeOff, quit, giveUpSeat, isParty, abortRotations}
@@ -29,6 +29,7 @@ use Rattle.rules.proofs.Counts.{Alike, same, apart, alike}
 use Rattle.rules.proofs.Tables.{at-each}
 use Rattle.rules.proofs.KeptTables.{at-other}
 use Rattle.rules.proofs.Tests.{by-cases, le-of, and-parts}
+use Rattle.rules.proofs.StampsTurns.{cutSplits-keeps}
 use Rattle.rules.proofs.Turns.{by-option, Reached, begun, turned, forAll-keeps, Finishes, checked-finishes, drawn-told, reshape-finishes, batch-keeps, finishes-told, finishes-at, finishes-map}
 
 -- ---- 'restamping members at a cut'
@@ -55,51 +56,20 @@ module _ (x : numbers.Id) (r : Bool) (w : Epoch) where
       go true e = record { shard = k .to (h .shard); there = here ∙ rw e (ap some (k .moved (h .shard))) }
       go false e = record { shard = h .shard; there = here ∙ rw e refl }
 
-  settle-carries : (t c : numbers.Shard) (seats : Table Seat) (y : numbers.Id) (b : Board) → Carries x r w (b .machines) → Carries x r w (cut.settle t c seats y b .machines)
-  unfolding cut.settle putOn join place
-  settle-carries t c seats y b h = by-option Goal (at y (b .machines)) (λ e. rw (e, cut.settle) h) (λ p e. by-option Goal (at y seats) (unseated p e) (λ q f. seated p e q f))
-    where
-      Goal : Type 0
-      Goal = Carries x r w (cut.settle t c seats y b .machines)
-
-      Board-carries : Board → Type 0
-      Board-carries d = Carries x r w (d .machines)
-
-      moves : Carries x r w (update y (movedTo c) (b .machines))
-      moves = update-carries y (movedTo c) (record { to = λ s. record { 0 = c }; moved = λ s. refl }) (b .machines) h
-
-      sits : (q : Seat) → Carries x r w (update y (seatedFromWatch c (q .ready) (epochOf b)) (b .machines))
-      sits q = update-carries y _ (record { to = λ s. s; moved = λ s. refl }) (b .machines) h
-
-      unseated : (p : Place) → at y (b .machines) ≡ some p → at y seats ≡ none → Goal
-      unseated p e f = rw (e, f, cut.settle) (by-cases Board-carries (isSeatedOn t p) _ _ (λ c. moves) (λ c. h))
-
-      seated : (p : Place) → at y (b .machines) ≡ some p → (q : Seat) → at y seats ≡ some q → Goal
-      seated p e q f = rw (e, f, cut.settle) (by-cases Board-carries (isSeatedOn t p) _ _ (λ c. moves) (λ c. by-cases Board-carries (isObserving p) _ _ (λ d. sits q) (λ d. h)))
-
   recast-carries : (k : Kind) (t : numbers.Shard) (height : numbers.Height) (b : Board) → Carries x r w (b .machines) → Carries x r w (cut.recast k t height b .machines)
   unfolding cut.recast
   recast-carries k t height b h =
       forAll-keeps (λ c. Carries x r w (c .machines)) _ (λ s c g. g) (newShards k t) _
       (forAll-keeps (λ c. Carries x r w (c .machines)) cut.endShard (λ s c g. g) (oldShards k t) _ h)
 
-  child-carries : (t c : numbers.Shard) (half : List numbers.Id) (seats : Table Seat) (b : Board) → Carries x r w (b .machines) → Carries x r w (cut.settleChild t c half seats b .machines)
-  unfolding cut.settleChild
-  child-carries t c half seats b h = forAll-keeps (λ d. Carries x r w (d .machines)) (cut.settle t c seats) (λ y d g. settle-carries t c seats y d g) _ b h
-
-  cut-split-carries : (t : numbers.Shard) (draws : List ℕ) (b : Board) → Carries x r w (b .machines) → Finishes (λ c. Carries x r w (c .machines)) (cut.cutSplit t draws b)
-  unfolding cut.cutSplit cut.cutSplitOf
-  cut-split-carries t draws b h =
-      reshape-finishes Kept t _ draws b h (λ q e. checked-finishes Kept _ _ (λ p.
-      child-carries t (rightOf t) (q .right) (q .seats) _ (child-carries t (leftOf t) (q .left) (q .seats) _ (recast-carries split t _ b h))))
-    where
-      Kept : Board → Type 0
-      Kept c = Carries x r w (c .machines)
-
 -- a machine that is seated keeps its ready and its stamp through every cut of splits, those on a target with the others
 pub cut-keeps-stamps : (x : numbers.Id) (s : ShardId) (r : Bool) (w : Epoch) (b : Board) → at x (b .machines) ≡ some (Seated s r w) → Carries x r w (cut.cutSplits b .board .machines)
-unfolding cut.cutSplits
-cut-keeps-stamps x s r w b e = batch-keeps (λ c. Carries x r w (c .machines)) cut.cutSplit (cut.due split b) [] b (λ g t o draws c h. cut-split-carries x r w t draws c h) (record { shard = s; there = e })
+unfolding putOn join place
+cut-keeps-stamps x s r w b e =
+    cutSplits-keeps (λ c. Carries x r w (c .machines))
+    (λ c y d h. update-carries x r w y (movedTo c) (record { to = λ v. record { 0 = c }; moved = λ v. refl }) (d .machines) h)
+    (λ c q y d h. update-carries x r w y (seatedFromWatch c (q .ready) (epochOf d)) (record { to = λ v. v; moved = λ v. refl }) (d .machines) h)
+    b (λ t o height c h. recast-carries x r w split t height c h) (record { shard = s; there = e })
 
 -- ---- 'one quorum test for both halves'
 

@@ -28,9 +28,12 @@ tick b = alone [] b (checked (unlessWellFormed b ∷ eqb (epochOf b) lastEpoch g
 
 -- ---- LEAVE: 'the machine is short of stake'
 
--- 'unless a scheduled split stands there'
 unfoldable pub isScheduledSplit : Reshape → Bool
 isScheduledSplit r = isKind split r and isSome (r .terminal)
+
+-- 'unless a scheduled split stands there'
+unfoldable pub isCarved : Shard → Board → Bool
+isCarved s b = holdsAt s isScheduledSplit (b .reshapes)
 
 -- 'struck from committee and from keepers of a merge at the shard's parent'
 unfoldable pub leaveSeat : Shard → Id → Board → Board
@@ -40,7 +43,7 @@ leaveSeat s x b = giveUpSeat merge (parentOf s) x (takeOff s short x b)
 unfoldable pub leaveFromSeat : Shard → Id → List ℕ → Board → Turn
 leaveFromSeat s x draws b =
     cond (isParty s x b) (finished 0 draws (onRotations (dropFirst (hasParty s x)) (leaveSeat s x b)))
-    (cond (holdsAt s isScheduledSplit (b .reshapes)) (finished 0 draws (leaveSeat s x b))
+    (cond (isCarved s b) (finished 0 draws (leaveSeat s x b))
     (poolDraw s false (λ y c. c) draws (leaveSeat s x b)))
 
 -- 'if observing: struck from committee and cohort'
