@@ -2,7 +2,7 @@
 use mathlib.Core.Path.{_≡_, refl, ap, sym, _∙_}
 use mathlib.Core.Logic.{_⊎_, inl, inr}
 use mathlib.Core.List.{List, [], _∷_}
-use mathlib.Core.Bool.{Bool, true, false, not, true≢false}
+use mathlib.Core.Bool.{Bool, true, false, true≢false}
 use Prim.Native.Nat.{suc, _≤_, _<_}
 use native.Mathlib.Omega.{arith}
 use lib.Dec.{eqb, ltb}
@@ -11,7 +11,7 @@ use Rattle.types.specs.Numbers.{Shard}
 use Rattle.rules.specs.Lists.{_and_, _or_, every, any}
 use Rattle.rules.specs.Board.{Rotation, mostRotations}
 use Rattle.rules.specs.WellFormed.{rising, goodList, goodRotation, rotationBefore}
-use Rattle.rules.specs.Moves.{hasParty, isOn, openRotation, dropFirst, dropRotations}
+use Rattle.rules.specs.Moves.{hasParty, openRotation, dropFirst, dropRotations}
 use Rattle.rules.proofs.Counts.{Alike, same, apart, alike}
 use Rattle.rules.proofs.Tests.{by-cases, and-parts, and-joins, or-cases, or-left, or-right, all-parts, all-joins, le-of, of-le, lt-of-no, eq-of, of-eq, every-parts, every-join, every-none, every-weaken}
 use Rattle.rules.proofs.KeptLists.{Part, end, kept, gone, part-all, part-keep, part-length, part-every}
@@ -144,7 +144,7 @@ Rota-dropFirst f {l} = Rota-part (part-dropFirst f l)
 
 pub Rota-dropRotations : (s : Shard) {l : List Rotation} → Rota l → Rota (dropRotations s l)
 unfolding dropRotations
-Rota-dropRotations s {l} = Rota-part (part-keep (λ r. not (isOn s r)) l)
+Rota-dropRotations s {l} = Rota-part (part-keep _ l)
 
 -- one more, whose victim is no party of a rotation on its shard
 pub Rota-open : (r : Rotation) {l : List Rotation} → goodRotation r ≡ true → any (hasParty (r .shard) (r .victim)) l ≡ false → length l < mostRotations → Rota l → Rota (openRotation r l)
