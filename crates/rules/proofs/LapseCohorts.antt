@@ -67,7 +67,7 @@ split-of t ids b h = go (at t (b .reshapes)) refl h
     go (some r) e g = let p = given-if _ _ _ g in record { reshape = r; there = e; is-split = p .0; cohort = p .1 }
 
 -- a split has the cohort that `cohortOf` tells
-split-has : (t : Shard) (b : Board) → reshapeAt split t b ≡ true → Has t (reshapes.cohortOf t b) b
+pub split-has : (t : Shard) (b : Board) → reshapeAt split t b ≡ true → Has t (reshapes.cohortOf t b) b
 unfolding cohortIn reshapes.cohortOf
 split-has t b h = let f = at-holds t (isKind split) (b .reshapes) h in rw (f .1, f .2, reshapes.cohortOf)
 
@@ -351,7 +351,7 @@ split-stays t = draw-keeps (λ c. reshapeAt split t c ≡ true) t (λ child x c 
     let f = at-holds t (isKind split) (c .reshapes) e in
     holds-at t (isKind split) _ (withSeats (put x (newSeat child)) (f .0)) (at-update t (withSeats (put x (newSeat child))) (c .reshapes) ∙ rw (f .1)) ∙ f .2)
 
-no-cohort-drawn : (t : Shard) (draws : List ℕ) (b : Board) → wellFormed b ≡ true → holdsAt t reshapes.awaitsCohort (b .reshapes) ≡ false → isDone (calls.drawCohort t draws) b ≡ false
+pub no-cohort-drawn : (t : Shard) (draws : List ℕ) (b : Board) → wellFormed b ≡ true → holdsAt t reshapes.awaitsCohort (b .reshapes) ≡ false → isDone (calls.drawCohort t draws) b ≡ false
 unfolding calls.answerTo reshapes.drawCohort alone checked
 no-cohort-drawn t draws b ok e = go (isTarget t) refl
   where
@@ -360,7 +360,7 @@ no-cohort-drawn t draws b ok e = go (isTarget t) refl
     go false f = rw (ok, f)
 
 -- a cohort is drawn for a split, which stands then
-drawn-split : (t : Shard) (draws : List ℕ) (b : Board) → wellFormed b ≡ true → isDone (calls.drawCohort t draws) b ≡ true → reshapeAt split t (next (calls.drawCohort t draws) b) ≡ true
+pub drawn-split : (t : Shard) (draws : List ℕ) (b : Board) → wellFormed b ≡ true → isDone (calls.drawCohort t draws) b ≡ true → reshapeAt split t (next (calls.drawCohort t draws) b) ≡ true
 unfolding calls.answerTo reshapes.awaitsCohort
 drawn-split t draws b ok d = go (holdsAt t reshapes.awaitsCohort (b .reshapes)) refl
   where

@@ -41,3 +41,4 @@ pub mod StampsTurns
 pub mod Stamps
 pub mod LapseCohorts
 pub mod Lapse
+pub mod Restored
