@@ -1,9 +1,9 @@
 -- The steps that set a terminal keep a board good.
 use mathlib.Core.Path.{_≡_, refl, sym, subst, _∙_}
 use mathlib.Core.Logic.{_⊎_, inl, inr}
-use mathlib.Core.List.{List, [], _∷_}
-use mathlib.Core.Option.{Option, none, some, Option·some-injective}
-use mathlib.Core.Bool.{Bool, true, false, cond, not, false≢true}
+use mathlib.Core.List.{List, []}
+use mathlib.Core.Option.{some, Option·some-injective}
+use mathlib.Core.Bool.{Bool, true, false, not, false≢true}
 use Prim.Native.Nat.{ℕ, _+_, _≤_, _<_}
 use native.Mathlib.Omega.{arith}
 use lib.ListN.{length, take, drop, length-take, length-drop}
@@ -13,18 +13,17 @@ use Rattle.rules.specs.Lists.{_and_, _or_, isEmpty, has, keep}
 use Rattle.rules.specs.Table.{Entry, at, update}
 use Rattle.rules.specs.Board.{Kind, split, merge, Reshape, Board, mostMembers, mostReshapes, mostHalf, onReshapes, epochOf}
 use Rattle.rules.specs.WellFormed.{isStamp, mayHaveHalves}
-use Rattle.rules.specs.Moves.{says, membersOf, place, quit, takeOff, entrantsOn, abortRotations, withDrainBy, withTerminal, isKind, oldShards, boundsStand}
-use Rattle.rules.specs.Turns.{finished, _gives_, checked}
-use Rattle.types.specs.declared.Answer.the-variants.{NoBoundary}
+use Rattle.rules.specs.Moves.{says, membersOf, place, quit, takeOff, entrantsOn, abortRotations, withDrainBy, withTerminal, isKind, oldShards}
 use Rattle.rules.specs.Reshapes.{halfUp}
-use Rattle.rules.specs.Schedule.{unscheduled, isQuiet, scheduled, drainOrSchedule, seatedThere, splitGate, passGate, halve, scheduleSplit, scheduleSplits, mergeGate, scheduleMerge, scheduleMerges}
+use Rattle.rules.specs.Schedule.{unscheduled, scheduled, seatedThere, splitGate, passGate, halve, scheduleSplit, scheduleSplits, mergeGate, scheduleMerge, scheduleMerges}
 use Rattle.rules.proofs.Counts.{occ, occ-take}
 use Rattle.rules.proofs.Tests.{by-cases, and-parts, or-cases, or-left, or-right, of-not, not-of, le-of, lt-of-no, has-occ}
 use Rattle.rules.proofs.KeptLists.{part-keep, part-length, part-occ, occ-drop, occ-sort, length-sort, Ids, Ids-none, Ids-part}
 use Rattle.rules.proofs.KeptTables.{Rows, Rows-update, at-keysWhere}
 use Rattle.rules.proofs.KeptBoard.{limits, Fit-drainBy, Fit-terminal, Good, fit-at, stamp}
 use Rattle.rules.proofs.KeptMoves.{members-good, good-abort, good-reshape, good-marked}
-use Rattle.rules.proofs.Turns.{forAll-keeps, Mixed, shuffle-draws, Finishes, checked-finishes, drawn-finishes, reshape-finishes, batch-keeps}
+use Rattle.rules.proofs.Batches.{drain-finishes}
+use Rattle.rules.proofs.Turns.{forAll-keeps, Mixed, shuffle-draws, Finishes, drawn-finishes, reshape-finishes, batch-keeps}
 
 -- ---- a terminal, or a time to drain by
 
@@ -36,19 +35,6 @@ good-scheduled t r left right b a l m k h =
     let e = stamp h 1 (omega arith) in
     forAll-keeps Good _ (λ s c. good-marked s (epochOf b + 1) (r .admitted) e a) (oldShards (r .kind) t) _
     (good-reshape t (withTerminal (epochOf b + 1) left right) (λ q u f. Fit-terminal (epochOf b + 1) e l m (k q u) f) h)
-
--- a property that both changes of a reshape keep is one of the turn's board
-module _ (P : Board → Type 0) (t : Shard) (r : Reshape) (left right : List Id) (draws : List ℕ) (b : Board) where
-  drain-finishes : P b → P (onReshapes (update t (withDrainBy (epochOf b + b .settings .drain))) b) → P (scheduled t r left right b) → Finishes P (drainOrSchedule t r left right draws b)
-  unfolding drainOrSchedule
-  drain-finishes p d s = go (r .drainBy)
-    where
-      go : (o : Option Epoch) → Finishes P (elim o [
-        | none ↦ finished 0 draws (onReshapes (update t (withDrainBy (epochOf b + b .settings .drain))) b)
-        | some e ↦ cond (isQuiet r) (checked (not (boundsStand (r .kind) t b) gives NoBoundary ∷ []) (finished 1 draws (scheduled t r left right b))) (finished 0 draws b)
-      ])
-      go none = d
-      go (some e) = by-cases (Finishes P) (isQuiet r) _ _ (λ q. checked-finishes P _ _ (λ c. s)) (λ q. p)
 
 good-drainBy : (t : Shard) (b : Board) → Good b → Good (onReshapes (update t (withDrainBy (epochOf b + b .settings .drain))) b)
 good-drainBy t b h = good-reshape t (withDrainBy (epochOf b + b .settings .drain)) (λ q e f. Fit-drainBy _ (stamp h _ (limits _ (h .settings) .drain)) f) h

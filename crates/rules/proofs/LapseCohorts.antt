@@ -36,7 +36,7 @@ use Rattle.rules.proofs.KeptTables.{at-keysWhere, at-holds, holds-at, a
 use Rattle.rules.proofs.KeptBoard.{Good, good-of}
 use Rattle.rules.proofs.Refusals.{Untouched, refusal-changes-nothing}
 use Rattle.rules.proofs.SeatsKept.{seatCheck-formed}
-use Rattle.rules.proofs.StampsTurns.{any-drawn-finishes, scheduleSplits-keeps, scheduleMerges-keeps, cutSplits-keeps, cutMerges-keeps}
+use Rattle.rules.proofs.Batches.{any-drawn-finishes, scheduleSplits-keeps, scheduleMerges-keeps, cutSplits-keeps, cutMerges-keeps}
 
 -- ---- the cohort of a split
 

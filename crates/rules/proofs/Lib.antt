@@ -37,7 +37,7 @@ pub mod SeatsMerge
 pub mod SeatsCut
 pub mod SeatsTest
 pub mod SeatsKept
-pub mod StampsTurns
+pub mod Batches
 pub mod Stamps
 pub mod LapseCohorts
 pub mod Lapse

@@ -29,8 +29,8 @@ use Rattle.rules.proofs.Counts.{Alike, same, apart, alike}
 use Rattle.rules.proofs.Tables.{at-each}
 use Rattle.rules.proofs.KeptTables.{at-other}
 use Rattle.rules.proofs.Tests.{by-cases, le-of, and-parts}
-use Rattle.rules.proofs.StampsTurns.{cutSplits-keeps}
-use Rattle.rules.proofs.Turns.{by-option, Reached, begun, turned, forAll-keeps, Finishes, checked-finishes, drawn-told, reshape-finishes, batch-keeps, finishes-told, finishes-at, finishes-map}
+use Rattle.rules.proofs.Batches.{drain-finishes, cutSplits-keeps}
+use Rattle.rules.proofs.Turns.{Reached, begun, turned, forAll-keeps, Finishes, drawn-told, reshape-finishes, batch-keeps, finishes-told, finishes-at, finishes-map}
 
 -- ---- 'restamping members at a cut'
 
@@ -94,13 +94,9 @@ abbrev Changed : numbers.Shard → Board → Board → Type 0
 Changed t b c = (c .reshapes ≡ b .reshapes) ⊎ ((f : Reshape → Reshape) × (c .reshapes ≡ update t f (b .reshapes)))
 
 drained-reshapes : (t : numbers.Shard) (r : Reshape) (lefts rights : List numbers.Id) (draws : List ℕ) (b : Board) → Finishes (Changed t b) (schedule.drainOrSchedule t r lefts rights draws b)
-unfolding schedule.drainOrSchedule schedule.scheduled
+unfolding schedule.scheduled
 drained-reshapes t r lefts rights draws b =
-    by-option (Finishes (Changed t b) (schedule.drainOrSchedule t r lefts rights draws b)) (r .drainBy)
-    (λ e. rw (e, schedule.drainOrSchedule) (inr (_, refl)))
-    (λ d e. rw (e, schedule.drainOrSchedule) (by-cases (Finishes (Changed t b)) (schedule.isQuiet r) _ _
-    (λ q. checked-finishes (Changed t b) _ _ (λ p. forAll-keeps (Changed t b) _ (λ s c g. g) (oldShards (r .kind) t) _ (inr (_, refl))))
-    (λ q. inl refl)))
+    drain-finishes (Changed t b) t r lefts rights draws b (inl refl) (inr (_, refl)) (forAll-keeps (Changed t b) _ (λ s c g. g) (oldShards (r .kind) t) _ (inr (_, refl)))
 
 -- aborting rotations changes no reshape
 abort-reshapes : (t : numbers.Shard) (b : Board) → abortRotations t b .reshapes ≡ b .reshapes

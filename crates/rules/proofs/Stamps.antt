@@ -32,7 +32,7 @@ use Rattle.rules.proofs.Tables.{From, at-each, From-update}
 use Rattle.rules.proofs.KeptTables.{at-keysWhere, at-update, at-other}
 use Rattle.rules.proofs.KeptBoard.{good-of}
 use Rattle.rules.proofs.KeptMoves.{forAll-counts, forAll-all}
-use Rattle.rules.proofs.StampsTurns.{any-drawn-finishes, scheduleSplits-keeps, scheduleMerges-keeps, cutSplits-keeps, cutMerges-keeps}
+use Rattle.rules.proofs.Batches.{any-drawn-finishes, scheduleSplits-keeps, scheduleMerges-keeps, cutSplits-keeps, cutMerges-keeps}
 
 -- ---- one machine within a call that is made at epoch now
 

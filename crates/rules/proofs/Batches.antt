@@ -11,23 +11,31 @@ use Rattle.types.specs.declared.Answer.the-variants.{NoBoundary}
 use Rattle.rules.specs.Lists.{_or_}
 use Rattle.rules.specs.Table.{Table, at, update, keysOf}
 use Rattle.rules.specs.Board.{split, merge, Seat, Reshape, Board, onReshapes, epochOf}
-use Rattle.rules.specs.Draws.{Drawn, drew, missing, tooLarge}
+use Rattle.rules.specs.Draws.{Drawn}
 use Rattle.rules.specs.Moves.{place, putOn, abortRotations, withDrainBy, boundsStand}
 use Rattle.rules.specs.Turns.{Turn, finished, _gives_, checked, drawn}
 use Rattle.rules.specs.Schedule.{isQuiet, scheduled, drainOrSchedule, splitGate, passGate, halve, scheduleSplit, scheduleSplits, mergeGate, scheduleMerge, scheduleMerges}
 use Rattle.rules.specs.Cut.{due, recast, settle, cohortFor, settleChild, cutSplitOf, cutSplit, cutSplits, others, rejoin, cutMergeOf, cutMerge, cutMerges}
-use Rattle.rules.proofs.Turns.{forAll-keeps, Draws, Finishes, checked-finishes, drawn-finishes, reshape-finishes, batch-keeps}
+use Rattle.rules.proofs.Turns.{forAll-keeps, Finishes, checked-finishes, drawn-told, reshape-finishes, batch-keeps}
 use Rattle.rules.proofs.Tests.{by-cases}
 use Rattle.rules.proofs.Counts.{occ}
 
 -- a turn after draws, whatever is drawn
 pub any-drawn-finishes : {A : Type 0} (P : Board → Type 0) (d : Drawn A) (turn : A → List ℕ → Turn) → ((a : A) (left : List ℕ) → Finishes P (turn a left)) → Finishes P (drawn d turn)
-any-drawn-finishes {A} P d turn h = drawn-finishes P (λ a. Unit {0}) d turn (any d) (λ a left u. h a left)
-  where
-    any : (e : Drawn A) → Draws (λ a. Unit {0}) e
-    any (drew a left) = tt
-    any missing = tt
-    any tooLarge = tt
+any-drawn-finishes P d turn h = drawn-told P d turn (λ a left e. h a left)
+
+-- a property that both changes of a reshape keep is one of the turn's board
+module _ (P : Board → Type 0) (t : Shard) (r : Reshape) (left right : List Id) (draws : List ℕ) (b : Board) where
+  pub drain-finishes : P b → P (onReshapes (update t (withDrainBy (epochOf b + b .settings .drain))) b) → P (scheduled t r left right b) → Finishes P (drainOrSchedule t r left right draws b)
+  unfolding drainOrSchedule
+  drain-finishes p d s = go (r .drainBy)
+    where
+      go : (o : Option Epoch) → Finishes P (elim o [
+        | none ↦ finished 0 draws (onReshapes (update t (withDrainBy (epochOf b + b .settings .drain))) b)
+        | some e ↦ cond (isQuiet r) (checked (not (boundsStand (r .kind) t b) gives NoBoundary ∷ []) (finished 1 draws (scheduled t r left right b))) (finished 0 draws b)
+      ])
+      go none = d
+      go (some e) = by-cases (Finishes P) (isQuiet r) _ _ (λ q. checked-finishes P _ _ (λ c. s)) (λ q. p)
 
 -- ---- SCHEDULE: rotations aborted, a time to drain by, a terminal
 
@@ -35,20 +43,12 @@ module _ (P : Board → Type 0)
     (aborts : (t : Shard) (b : Board) → P b → P (abortRotations t b))
     (drains : (t : Shard) (e : Epoch) (b : Board) → P b → P (onReshapes (update t (withDrainBy e)) b))
     (sets : (t : Shard) (r : Reshape) (left right : List Id) (b : Board) → P b → P (scheduled t r left right b)) where
-  drain-finishes : (t : Shard) (r : Reshape) (left right : List Id) (draws : List ℕ) (b : Board) → P b → Finishes P (drainOrSchedule t r left right draws b)
-  unfolding drainOrSchedule
-  drain-finishes t r left right draws b p = go (r .drainBy)
-    where
-      go : (o : Option Epoch) → Finishes P (elim o [
-        | none ↦ finished 0 draws (onReshapes (update t (withDrainBy (epochOf b + b .settings .drain))) b)
-        | some e ↦ cond (isQuiet r) (checked (not (boundsStand (r .kind) t b) gives NoBoundary ∷ []) (finished 1 draws (scheduled t r left right b))) (finished 0 draws b)
-      ])
-      go none = drains t _ b p
-      go (some e) = by-cases (Finishes P) (isQuiet r) _ _ (λ q. checked-finishes P _ _ (λ c. sets t r left right b p)) (λ q. p)
+  drains-finish : (t : Shard) (r : Reshape) (left right : List Id) (draws : List ℕ) (b : Board) → P b → Finishes P (drainOrSchedule t r left right draws b)
+  drains-finish t r left right draws b p = drain-finishes P t r left right draws b p (drains t _ b p) (sets t r left right b p)
 
   gate-finishes : (t : Shard) (left right : List Id) (draws : List ℕ) (b : Board) → P b → Finishes P (passGate t left right draws b)
   unfolding passGate
-  gate-finishes t left right draws b p = reshape-finishes P t _ draws b p (λ r e. by-cases (Finishes P) (splitGate t left right r b) _ _ (λ g. drain-finishes t r left right draws b p) (λ g. p))
+  gate-finishes t left right draws b p = reshape-finishes P t _ draws b p (λ r e. by-cases (Finishes P) (splitGate t left right r b) _ _ (λ g. drains-finish t r left right draws b p) (λ g. p))
 
   pub scheduleSplits-keeps : (draws : List ℕ) (b : Board) → P b → P (scheduleSplits draws b .board)
   unfolding scheduleSplits scheduleSplit halve
@@ -58,7 +58,7 @@ module _ (P : Board → Type 0)
   unfolding scheduleMerges scheduleMerge
   scheduleMerges-keeps b =
       batch-keeps P scheduleMerge _ [] b (λ w t o ds c p.
-      reshape-finishes P t _ ds c p (λ r e. by-cases (Finishes P) (mergeGate r c) _ _ (λ g. drain-finishes t r [] [] ds c p) (λ g. p)))
+      reshape-finishes P t _ ds c p (λ r e. by-cases (Finishes P) (mergeGate r c) _ _ (λ g. drains-finish t r [] [] ds c p) (λ g. p)))
 
 -- ---- CUT SPLITS: the target's tables recast, members moved, watchers seated
 
