@@ -1,6 +1,6 @@
 -- What a change of one section keeps: the board still has room for what it holds.
 use Prim.Native.Nat.{ℕ, zero, suc, _≤_, _<_}
-use mathlib.Core.Path.{_≡_}
+use mathlib.Core.Path.{_≡_, refl, ap, subst}
 use mathlib.Core.List.{List, [], _∷_}
 use mathlib.Core.Bool.{Bool, true}
 use native.Mathlib.Omega.{arith}
@@ -40,6 +40,21 @@ module _ {A : Type 0} (f : A → Bool) where
   every-remove [] (suc i) p = p
   every-remove (x ∷ xs) (suc i) p = let r = every-parts f x xs p in every-join f x (removeAt xs i) (r .0) (every-remove xs i (r .1))
 
+-- the row that an insert makes, read and set
+module _ {A : Type 0} where
+  pub insert-at : (xs : List A) (j : ℕ) (z d : A) → j ≤ length xs → getD (insertAt xs j z) j d ≡ z
+  insert-at xs zero z d h = refl
+  insert-at [] (suc j) z d h = absurd (omega arith)
+  insert-at (x ∷ xs) (suc j) z d h = insert-at xs j z d (omega arith)
+
+  pub set-insert : (xs : List A) (j : ℕ) (z y : A) → j ≤ length xs → set (insertAt xs j z) j y ≡ insertAt xs j y
+  set-insert xs zero z y h = refl
+  set-insert [] (suc j) z y h = absurd (omega arith)
+  set-insert (x ∷ xs) (suc j) z y h = ap (λ (l : List A). x ∷ l) (set-insert xs j z y (omega arith))
+
+  pub insert-length : (xs : List A) (j : ℕ) (z : A) → j ≤ length xs → length (insertAt xs j z) ≡ suc (length xs)
+  insert-length xs j z h = simp length-append (omega (arith, length-take-le j xs h, length-drop j xs))
+
 module _ {A : Type 0} (most : ℕ) (xs : List A) where
   pub set-room : (i : ℕ) (y : A) → length xs ≤ most → length (set xs i y) ≤ most
   set-room i y h = rw length-set h
@@ -49,6 +64,9 @@ module _ {A : Type 0} (most : ℕ) (xs : List A) where
 
   pub remove-room : (i : ℕ) → i < length xs → length xs ≤ most → length (removeAt xs i) ≤ most
   remove-room i l h = simp length-append (omega (arith, length-take-le i xs (omega arith), length-drop (suc i) xs))
+
+pub held-as : (ws : List ℕ) (a b : Board) → a ≡ b → Holds ws a → Holds ws b
+held-as ws a b e h = subst (λ c. Holds ws c) e h
 
 -- ---- of the board: the words hold it with another section
 

@@ -5,3 +5,5 @@ pub mod Sections
 pub mod Fitting
 pub mod OfSettings
 pub mod OfMachines
+pub mod OfCommittees
+pub mod OfBounds

@@ -3,15 +3,16 @@ use Prim.Native.Nat.{ℕ, _+_, _-_, _*_, _≤_, _<_}
 use mathlib.Core.Path.{_≡_, refl, ap, sym, _∙_}
 use mathlib.Core.List.{List, [], _∷_, _++_, append-assoc, append-nil}
 use native.Mathlib.Omega.{arith}
-use lib.ListN.{length, getD, set, take, drop, length-append}
+use lib.ListN.{length, getD, set, take, drop, replicate, length-append}
 use lib.Seq.{set-getD}
 use borrow.Rule.Slice.PartMut.{putMid}
 use Rattle.rules.specs.Table.{entry}
 use Rattle.rules.specs.Board.{Board, mostMachines, mostCommittees, mostMembers, mostBounds, mostRotations, mostReshapes, onSettings, onMachines, onCommittees, onBounds, onRotations, onReshapes}
 use Rattle.rules.specs.Snapshot.{machineWords, boundaryWords, rotationWords}
-use Rattle.tables.specs.Rows.{table, idTable}
+use Rattle.tables.specs.Rows.{table, idTable, insertAt, removeAt, Rising, placeOf, without, Row, wordsIn, keyIn}
 use Rattle.tables.proofs.Parts.{Spot, spot-read, spot-put, spot-word, spot-store, within}
 use Rattle.tables.proofs.Tables.{table-length, row-spot}
+use Rattle.tables.proofs.Typed.{opened-as, removed-as, dropped-as, placed-as}
 use Rattle.board.specs.Layout.{machineWidth, committeeWidth, boundaryWidth, rotationWidth, membersAt, reshapeWidth, machinesAt, committeesAt, boundsAt, rotationsAt, reshapesAt, boardSize, committeeRow, reshapeRow, settingsTable, machineTable, committeeTable, boundaryTable, rotationTable, reshapeTable, encode}
 use Rattle.board.specs.Held.{Fits, Holds}
 use Rattle.board.proofs.Widths.{machine-wide, committee-wide, boundary-wide, rotation-wide, reshape-wide, settings-wide, board-wide}
@@ -40,6 +41,29 @@ module _ {A : Type 0} {f : A → List ℕ} {w cap o : ℕ} {get : Board → List
   pub section-back : (xs : List A) (p : List ℕ) → p ≡ table f w cap xs → putMid o (1 + cap * w) ws p ≡ encode (put xs b)
   section-back xs p g = spot-put (s .spot b) (get b) xs ws p o (1 + cap * w) whole refl (table-length f w cap (get b)) g
 
+  -- what `place_of`, `open_row`, `remove_row` and `drop_rows` make of the section
+  module _ (key : A → ℕ) (first : (x : A) → getD (f x) 0 0 ≡ key x) where
+    pub section-place : (k r : ℕ) → Rising key (get b)
+        → ((rs : List (Row w)) → take (1 + cap * w) (drop o ws) ≡ table wordsIn w cap rs → length rs ≤ cap → Rising keyIn rs → r ≡ placeOf keyIn k rs)
+        → r ≡ placeOf key k (get b)
+    section-place k r q g = placed-as f w (s .wide) cap (get b) _ [] section-lent key first k r (s .room b (h .fits)) q g
+
+    pub section-dropped : (k : ℕ) (u : List ℕ)
+        → ((rs : List (Row w)) → take (1 + cap * w) (drop o ws) ≡ table wordsIn w cap rs → length rs ≤ cap → u ≡ table wordsIn w cap (without keyIn k rs))
+        → putMid o (1 + cap * w) ws u ≡ encode (put (without key k (get b)) b)
+    section-dropped k u g = section-back (without key k (get b)) u (dropped-as f w (s .wide) cap (get b) _ u section-lent key first k (s .room b (h .fits)) g)
+
+  pub section-opened : (j : ℕ) (z : A) (u : List ℕ) → f z ≡ replicate w 0 → length (get b) < cap → j ≤ length (get b)
+      → ((rs : List (Row w)) (r : Row w) → take (1 + cap * w) (drop o ws) ≡ table wordsIn w cap rs → length rs < cap → j ≤ length rs → r .words ≡ replicate w 0
+      → u ≡ table wordsIn w cap (insertAt rs j r))
+      → putMid o (1 + cap * w) ws u ≡ encode (put (insertAt (get b) j z) b)
+  section-opened j z u q l m g = section-back (insertAt (get b) j z) u (opened-as f w (s .wide) cap (get b) _ u section-lent j z q l m g)
+
+  pub section-removed : (j : ℕ) (u : List ℕ) → j < length (get b)
+      → ((rs : List (Row w)) → take (1 + cap * w) (drop o ws) ≡ table wordsIn w cap rs → length rs ≤ cap → j < length rs → u ≡ table wordsIn w cap (removeAt rs j))
+      → putMid o (1 + cap * w) ws u ≡ encode (put (removeAt (get b) j) b)
+  section-removed j u l g = section-back (removeAt (get b) j) u (removed-as f w (s .wide) cap (get b) _ u section-lent j (s .room b (h .fits)) l g)
+
   -- row i, where there is one: addresses as the code writes them, the end as the start and the width
   module _ (i : ℕ) (d : A) (l : i < length (get b)) where
     row-at : Spot f (λ y. encode (put (set (get b) i y) b)) (o + (1 + i * w))
@@ -54,7 +78,13 @@ module _ {A : Type 0} {f : A → List ℕ} {w cap o : ℕ} {get : Board → List
     pub row-back : (y : A) (p : List ℕ) → p ≡ f y → putMid (o + 1 + i * w) (o + 1 + i * w + w - (o + 1 + i * w)) ws p ≡ encode (put (set (get b) i y) b)
     row-back y p g = spot-put row-at (getD (get b) i d) y ws p (o + 1 + i * w) (o + 1 + i * w + w - (o + 1 + i * w)) row-whole (omega arith) (omega (arith, s .wide (getD (get b) i d))) g
 
-    -- one word of the row
+    -- the first word of the row, and any
+    pub key-read : 0 < w → getD ws (o + 1 + i * w) 0 ≡ getD (f (getD (get b) i d)) 0 0
+    key-read m = spot-word row-at (getD (get b) i d) ws (o + 1 + i * w) 0 row-whole (omega arith) (omega (arith, s .wide (getD (get b) i d)))
+
+    pub key-stored : (y : A) (v : ℕ) → 0 < w → set (f (getD (get b) i d)) 0 v ≡ f y → set ws (o + 1 + i * w) v ≡ encode (put (set (get b) i y) b)
+    key-stored y v m g = spot-store row-at (getD (get b) i d) y ws (o + 1 + i * w) 0 v row-whole (omega arith) (omega (arith, s .wide (getD (get b) i d))) g
+
     pub word-read : (c : ℕ) → c < w → getD ws (o + 1 + i * w + c) 0 ≡ getD (f (getD (get b) i d)) c 0
     word-read c m = spot-word row-at (getD (get b) i d) ws (o + 1 + i * w + c) c row-whole (omega arith) (omega (arith, s .wide (getD (get b) i d)))
 
@@ -74,6 +104,10 @@ module _ {A : Type 0} {f : A → List ℕ} {w cap o : ℕ} {get : Board → List
 
       pub part-back : (y : B) (p : List ℕ) → p ≡ inner y → putMid (o + 1 + i * w + c) (o + 1 + i * w + c + n - (o + 1 + i * w + c)) ws p ≡ encode (put (set (get b) i (g y)) b)
       part-back y p r = spot-put part-at x y ws p (o + 1 + i * w + c) (o + 1 + i * w + c + n - (o + 1 + i * w + c)) part-whole (omega arith) (omega arith) r
+
+      -- the first word of a part that has one
+      pub part-first : 0 < n → getD ws (o + 1 + i * w + c) 0 ≡ getD (inner x) 0 0
+      part-first m = spot-word part-at x ws (o + 1 + i * w + c) 0 part-whole (omega arith) (omega arith)
 
       pub part-word : (j : ℕ) → j < n → getD ws (o + 1 + i * w + c + j) 0 ≡ getD (inner x) j 0
       part-word j m = spot-word part-at x ws (o + 1 + i * w + c + j) j part-whole (omega arith) (omega arith)

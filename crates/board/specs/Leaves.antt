@@ -5,11 +5,16 @@ use Rattle.types.specs.declared.Place.{Place}
 use Rattle.types.specs.declared.Place.the-variants.{Pooled, Seated, Observing, Short, Other}
 use Rattle.types.specs.declared.Machine.{Machine}
 use Rattle.rules.specs.Lists.{bitOf}
-use Rattle.rules.specs.Table.{Entry, entry}
+use lib.ListN.{getD, set}
+use Rattle.rules.specs.Table.{Entry, entry, Table}
 use Rattle.rules.specs.Board.{Settings}
 
 abbrev pub atEpoch : Epoch → Settings → Settings
 atEpoch e s = record { epoch = e; size = s .size; drain = s .drain; wait = s .wait; interval = s .interval; most = s .most }
+
+-- the value at row i of a table changed
+abbrev pub changeAt : {A : Type 0} → Entry A → ℕ → (A → A) → Table A → Table A
+changeAt d i f t = set t i (entry (getD t i d .key) (f (getD t i d .val)))
 
 -- ---- a place, word by word
 

@@ -25,7 +25,9 @@ pub const MOST_MEMBERS: usize = 96;
 
 pub const MEMBERS_AT: usize = 1;
 
-pub const COMMITTEE_WIDTH: usize = MEMBERS_AT + 1 + MOST_MEMBERS;
+pub const MEMBERS_SIZE: usize = 1 + MOST_MEMBERS;
+
+pub const COMMITTEE_WIDTH: usize = MEMBERS_AT + MEMBERS_SIZE;
 
 pub const COMMITTEES_AT: usize = MACHINES_AT + 1 + MOST_MACHINES * MACHINE_WIDTH;
 
@@ -34,3 +36,11 @@ pub const MOST_BOUNDS: usize = 48;
 pub const BOUNDARY_WIDTH: usize = 8;
 
 pub const BOUNDS_AT: usize = COMMITTEES_AT + 1 + MOST_COMMITTEES * COMMITTEE_WIDTH;
+
+pub const MOST_ROTATIONS: usize = 48;
+
+pub const ROTATION_WIDTH: usize = 4;
+
+pub const ROTATIONS_AT: usize = BOUNDS_AT + 1 + MOST_BOUNDS * BOUNDARY_WIDTH;
+
+pub const RESHAPES_AT: usize = ROTATIONS_AT + 1 + MOST_ROTATIONS * ROTATION_WIDTH;
