@@ -6,4 +6,3 @@ pub mod Fitting
 pub mod OfSettings
 pub mod OfMachines
 pub mod OfCommittees
-pub mod OfBounds

@@ -1,5 +1,4 @@
 // The board in lent words: leaf reads and writes, typed, each for every board that the words hold.
-pub mod bounds;
 pub mod committees;
 pub mod layout;
 pub mod machines;

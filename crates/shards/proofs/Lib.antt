@@ -1,0 +1,2 @@
+pub mod OfBounds
+pub mod OfRotations

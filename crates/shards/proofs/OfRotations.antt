@@ -1,0 +1,68 @@
+-- A rotation's row, what is asked of one, and a search among them.
+use Prim.Native.Nat.{ℕ, suc, _+_, _≤_, _<_}
+use mathlib.Core.Path.{_≡_, refl, ap, sym, _∙_}
+use mathlib.Core.List.{List, []}
+use mathlib.Core.Bool.{Bool, true, false, not, _&&_, _||_}
+use native.Mathlib.Omega.{arith}
+use lib.Dec.{eqb, ltb}
+use lib.ListN.{length, getD, drop, replicate, drop-of-length-le}
+use Rattle.types.specs.declared.ShardId.{ShardId}
+use Rattle.rules.specs.Lists.{_and_, _or_}
+use Rattle.rules.specs.Board.{Rotation}
+use Rattle.rules.specs.WellFormed.{rotationBefore}
+use Rattle.rules.specs.Moves.{hasParty, dropRotations}
+use Rattle.rules.specs.Snapshot.{rotationWords}
+use Rattle.tables.specs.Rows.{firstWhere, without}
+use Rattle.tables.proofs.Keys.{first-here, first-later}
+use Rattle.board.specs.Layout.{rotationWidth}
+use Rattle.board.specs.Held.{noRotation}
+
+pub rotation-back : (t : List ℕ) (q : Rotation) → t ≡ rotationWords q
+    → _≡_ {A = Rotation} (record { shard = getD t 0 0; victim = getD t 1 0; entrant = getD t 2 0; opened = getD t 3 0 }) q
+unfolding rotationWords
+rotation-back t q e = rw e
+
+pub rotation-key : (r : Rotation) → getD (rotationWords r) 0 0 ≡ r .shard
+unfolding rotationWords
+rotation-key r = refl
+
+pub no-rotation : rotationWords noRotation ≡ replicate rotationWidth 0
+unfolding rotationWords
+no-rotation = refl
+
+pub drop-is-without : (s : ℕ) (l : List Rotation) → dropRotations s l ≡ without (λ r. r .shard) s l
+unfolding dropRotations
+drop-is-without s l = refl
+
+-- ---- tests as the code writes them
+
+or-is : (c d : Bool) → (c || d) ≡ (c or d)
+unfolding _or_
+or-is true d = refl
+or-is false d = refl
+
+and-is : (c d : Bool) → (c && d) ≡ (c and d)
+unfolding _and_
+and-is true d = refl
+and-is false d = refl
+
+pub before-is : (p q : Rotation) (s v : ℕ) → p .shard ≡ s → p .victim ≡ v → (ltb s (q .shard) || (eqb s (q .shard) && ltb v (q .victim))) ≡ rotationBefore p q
+unfolding rotationBefore
+before-is p q s v e f = rw (← e, ← f, and-is) (or-is _ _)
+
+pub party-is : (q : Rotation) (s x : ℕ) → (eqb (q .shard) s && (eqb (q .victim) x || eqb (q .entrant) x)) ≡ hasParty s x q
+unfolding hasParty
+party-is q s x = rw or-is (and-is _ _)
+
+-- ---- a search: found, passed, and at the end
+
+module _ {A : Type 0} (f : A → Bool) (l : List A) (i n : ℕ) (e : i + firstWhere f (drop i l) ≡ n) where
+  pub search-found : (d : A) → i < length l → f (getD l i d) ≡ true → i ≡ n
+  search-found d h t = omega (arith, first-here f l i d h t)
+
+  pub search-passed : (d : A) → i < length l → f (getD l i d) ≡ false → i + 1 + firstWhere f (drop (i + 1) l) ≡ n
+  search-passed d h t = omega (arith, first-later f l i d h t)
+
+  pub search-ended : length l ≤ i → i ≡ n
+  unfolding firstWhere
+  search-ended h = let z : firstWhere f (drop i l) ≡ 0 = ap (firstWhere f) (drop-of-length-le l {i = i} h) in omega arith
