@@ -69,11 +69,11 @@ every-yes (x ∷ xs) = every-join _ _ _ refl (every-yes xs)
 
 -- ---- rows
 
-bit-back : (c : Bool) → isOne (bitOf c) ≡ c
+pub bit-back : (c : Bool) → isOne (bitOf c) ≡ c
 bit-back true = refl
 bit-back false = refl
 
-option-back : (o : Option Epoch) → optionOf (flagOf o) (valueOf o) ≡ o
+pub option-back : (o : Option Epoch) → optionOf (flagOf o) (valueOf o) ≡ o
 unfolding optionOf flagOf valueOf
 option-back none = refl
 option-back (some e) = refl

@@ -13,7 +13,7 @@ use Rattle.rules.specs.WellFormed.{rotationBefore}
 use Rattle.rules.specs.Moves.{hasParty, dropRotations}
 use Rattle.rules.specs.Snapshot.{rotationWords}
 use Rattle.tables.specs.Rows.{firstWhere, without}
-use Rattle.tables.proofs.Keys.{first-here, first-later}
+use Rattle.tables.proofs.Bools.{or-is, and-is}
 use Rattle.board.specs.Layout.{rotationWidth}
 use Rattle.board.specs.Held.{noRotation}
 
@@ -36,16 +36,6 @@ drop-is-without s l = refl
 
 -- ---- tests as the code writes them
 
-or-is : (c d : Bool) → (c || d) ≡ (c or d)
-unfolding _or_
-or-is true d = refl
-or-is false d = refl
-
-and-is : (c d : Bool) → (c && d) ≡ (c and d)
-unfolding _and_
-and-is true d = refl
-and-is false d = refl
-
 pub before-is : (p q : Rotation) (s v : ℕ) → p .shard ≡ s → p .victim ≡ v → (ltb s (q .shard) || (eqb s (q .shard) && ltb v (q .victim))) ≡ rotationBefore p q
 unfolding rotationBefore
 before-is p q s v e f = rw (← e, ← f, and-is) (or-is _ _)
@@ -53,16 +43,3 @@ before-is p q s v e f = rw (← e, ← f, and-is) (or-is _ _)
 pub party-is : (q : Rotation) (s x : ℕ) → (eqb (q .shard) s && (eqb (q .victim) x || eqb (q .entrant) x)) ≡ hasParty s x q
 unfolding hasParty
 party-is q s x = rw or-is (and-is _ _)
-
--- ---- a search: found, passed, and at the end
-
-module _ {A : Type 0} (f : A → Bool) (l : List A) (i n : ℕ) (e : i + firstWhere f (drop i l) ≡ n) where
-  pub search-found : (d : A) → i < length l → f (getD l i d) ≡ true → i ≡ n
-  search-found d h t = omega (arith, first-here f l i d h t)
-
-  pub search-passed : (d : A) → i < length l → f (getD l i d) ≡ false → i + 1 + firstWhere f (drop (i + 1) l) ≡ n
-  search-passed d h t = omega (arith, first-later f l i d h t)
-
-  pub search-ended : length l ≤ i → i ≡ n
-  unfolding firstWhere
-  search-ended h = let z : firstWhere f (drop i l) ≡ 0 = ap (firstWhere f) (drop-of-length-le l {i = i} h) in omega arith

@@ -6,7 +6,7 @@ use Rattle.rules.specs.Board.{Board, Rotation, mostRotations}
 use Rattle.rules.specs.WellFormed.{rotationBefore}
 use Rattle.tables.specs.Rows.{firstWhere}
 use Rattle.board.specs.Held.{Holds, noRotation}
-use Rattle.shards.proofs.OfRotations.{search-found, search-passed, search-ended}
+use Rattle.tables.proofs.Keys.{search-found, search-passed, search-ended}
 use borrow.Author.Needs.{needs}
 use Rattle.shards.proofs.rotations.place_for.Statement.{statement}
 use Rattle.shards.proofs.rotations.place_for.Tie as tie
