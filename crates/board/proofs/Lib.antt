@@ -6,3 +6,4 @@ pub mod Fitting
 pub mod OfSettings
 pub mod OfMachines
 pub mod OfCommittees
+pub mod Keyed

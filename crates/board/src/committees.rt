@@ -98,6 +98,17 @@ pub fn strike_member(ws: &mut [u64], j: usize, id: ValidatorId)
     tables::drop_rows(&mut ws[a..e], 1, MOST_MEMBERS, id.0);
 }
 
+// All members go.
+pub fn clear_members(ws: &mut [u64], j: usize)
+    requires { ⌜ (length (now ws) ≡ boardSize) × (j < mostCommittees) ⌝ }
+    ensures { λ _. ⌜ ((b : Board) → Holds (now (ws .entry)) b → j < length (b .committees) →
+        Holds (now (ws .exit)) (onCommittees (changeAt noCommittee j (λ l. [])) b)) ⌝ }
+{
+    let a = COMMITTEES_AT + 1 + j * COMMITTEE_WIDTH + MEMBERS_AT;
+    let e = a + MEMBERS_SIZE;
+    tables::clear(&mut ws[a..e]);
+}
+
 // ---- committees opened and closed
 
 // A committee with no members, at j.

@@ -1,13 +1,13 @@
 -- A reshape's row: its first words, and its three tables.
 use Prim.Native.Nat.{ℕ, _+_, _-_, _*_, _≤_, _<_}
 use mathlib.Core.Path.{_≡_, refl, ap, sym, _∙_}
-use mathlib.Core.List.{List, [], _∷_, _++_, append-assoc, append-nil}
+use mathlib.Core.List.{List, [], _++_, append-assoc, append-nil}
 use mathlib.Core.Option.{Option, none, some}
-use mathlib.Core.Bool.{Bool, true, false, cond}
+use mathlib.Core.Bool.{Bool, true, false}
 use native.Mathlib.Omega.{arith}
 use borrow.Author.Tests.{leb-true, le-leb}
 use borrow.Rule.Slice.PartMut.{putMid}
-use lib.Dec.{eqb, leb}
+use lib.Dec.{eqb}
 use lib.ListN.{length, getD, set, take, drop, replicate, length-append}
 use Rattle.types.specs.Numbers.{Id, Epoch}
 use Rattle.rules.specs.Lists.{bitOf}
@@ -25,7 +25,7 @@ use Rattle.board.specs.Held.{roomyReshape, Holds, noReshape}
 use Rattle.board.specs.Leaves.{changeAt}
 use Rattle.board.proofs.One.{bit-back}
 use Rattle.board.proofs.Widths.{head-wide}
-use Rattle.board.proofs.Sections.{reshapes, word-read, word-stored, row-lent, row-back, part-lent, part-back, part-first, part-word}
+use Rattle.board.proofs.Sections.{reshapes, part-lent, part-back, part-first, part-word}
 use Rattle.board.proofs.Fitting.{every-at, every-set, set-room, held-reshapes}
 use Rattle.reshapes.specs.Changes.{kindOf, withLeft, withRight, atTerminal, newlyAdmitted}
 

@@ -1,17 +1,16 @@
 -- A table of seats: a row lent, a row put, a row more.
 use Prim.Native.Nat.{ℕ, _+_, _-_, _*_, _≤_, _<_}
 use mathlib.Core.Path.{_≡_, refl, ap, sym, _∙_}
-use mathlib.Core.List.{List, []}
+use mathlib.Core.List.{List}
 use native.Mathlib.Omega.{arith}
 use borrow.Rule.Slice.PartMut.{putMid}
 use lib.ListN.{length, getD, set, take, drop, replicate}
 use lib.Seq.{set-getD}
 use Rattle.rules.specs.Table.{Entry, entry, Table}
 use Rattle.rules.specs.Board.{Seat, mostSeats}
-use Rattle.rules.specs.Snapshot.{seatWords, isOne, rowsWords}
-use Rattle.tables.specs.Rows.{pad}
+use Rattle.rules.specs.Snapshot.{seatWords, isOne}
 use Rattle.tables.proofs.Parts.{spot-read, spot-put}
-use Rattle.tables.proofs.Tables.{table-length, row-spot}
+use Rattle.tables.proofs.Tables.{row-spot}
 use Rattle.board.specs.Layout.{seatWidth, seatTable}
 use Rattle.board.specs.Held.{noSeat}
 use Rattle.board.proofs.One.{bit-back}
@@ -28,15 +27,6 @@ seat-key e = refl
 pub no-seat : seatWords noSeat ≡ replicate seatWidth 0
 unfolding seatWords
 no-seat = refl
-
-no-seats : replicate (1 + mostSeats * seatWidth) 0 ≡ seatTable []
-unfolding rowsWords pad
-no-seats = refl
-
-pub seats-cleared : (p u : List ℕ) (xs : Table Seat) → u ≡ seatTable xs → p ≡ replicate (length u) 0 → p ≡ seatTable []
-seats-cleared p u xs e q =
-    let n : length u ≡ 1 + mostSeats * seatWidth = ap length e ∙ table-length seatWords seatWidth mostSeats xs in
-    q ∙ ap (λ (k : ℕ). replicate k 0) n ∙ no-seats
 
 module _ (xs : Table Seat) (t : List ℕ) (e : t ≡ seatTable xs) (l : length xs ≤ mostSeats) (k : ℕ) (h : k < length xs) where
   whole : t ≡ seatTable (set xs k (getD xs k noSeat))

@@ -1,18 +1,15 @@
 -- A rotation's row, what is asked of one, and a search among them.
-use Prim.Native.Nat.{ℕ, suc, _+_, _≤_, _<_}
-use mathlib.Core.Path.{_≡_, refl, ap, sym, _∙_}
-use mathlib.Core.List.{List, []}
-use mathlib.Core.Bool.{Bool, true, false, not, _&&_, _||_}
-use native.Mathlib.Omega.{arith}
+use Prim.Native.Nat.{ℕ}
+use mathlib.Core.Path.{_≡_, refl}
+use mathlib.Core.List.{List}
+use mathlib.Core.Bool.{_&&_, _||_}
 use lib.Dec.{eqb, ltb}
-use lib.ListN.{length, getD, drop, replicate, drop-of-length-le}
-use Rattle.types.specs.declared.ShardId.{ShardId}
-use Rattle.rules.specs.Lists.{_and_, _or_}
+use lib.ListN.{getD, replicate}
 use Rattle.rules.specs.Board.{Rotation}
 use Rattle.rules.specs.WellFormed.{rotationBefore}
 use Rattle.rules.specs.Moves.{hasParty, dropRotations}
 use Rattle.rules.specs.Snapshot.{rotationWords}
-use Rattle.tables.specs.Rows.{firstWhere, without}
+use Rattle.tables.specs.Rows.{without}
 use Rattle.tables.proofs.Bools.{or-is, and-is}
 use Rattle.board.specs.Layout.{rotationWidth}
 use Rattle.board.specs.Held.{noRotation}
