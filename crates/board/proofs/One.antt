@@ -69,11 +69,11 @@ every-yes (x ∷ xs) = every-join _ _ _ refl (every-yes xs)
 
 -- ---- rows
 
-bit-back : (c : Bool) → isOne (bitOf c) ≡ c
+pub bit-back : (c : Bool) → isOne (bitOf c) ≡ c
 bit-back true = refl
 bit-back false = refl
 
-option-back : (o : Option Epoch) → optionOf (flagOf o) (valueOf o) ≡ o
+pub option-back : (o : Option Epoch) → optionOf (flagOf o) (valueOf o) ≡ o
 unfolding optionOf flagOf valueOf
 option-back none = refl
 option-back (some e) = refl
@@ -219,7 +219,7 @@ list-room : {A : Type 0} (most : ℕ) (good : A → Bool) (before : A → A → 
 unfolding goodList
 list-room most good before l h = leb-true _ _ (all-parts _ h .0)
 
-list-good : {A : Type 0} (most : ℕ) (good : A → Bool) (before : A → A → Bool) (l : List A) → goodList most good before l ≡ true → every good l ≡ true
+pub list-good : {A : Type 0} (most : ℕ) (good : A → Bool) (before : A → A → Bool) (l : List A) → goodList most good before l ≡ true → every good l ≡ true
 unfolding goodList
 list-good most good before l h = all-parts _ h .1 .0
 

@@ -1,3 +1,4 @@
 pub mod Layout
 pub mod Held
 pub mod Permitted
+pub mod Leaves

@@ -12,6 +12,7 @@ use lib.Seq.{set-at, take-suc}
 use Rattle.rules.specs.Lists.{_or_, any, has}
 use Rattle.rules.specs.Snapshot.{rowsWords, idWords}
 use Rattle.tables.specs.Rows.{pad, idTable}
+use Rattle.tables.proofs.Bools.{or-is}
 use Rattle.tables.proofs.Tables.{pad-is}
 
 pub id-rows : (l : List ℕ) → rowsWords idWords l ≡ l
@@ -62,16 +63,11 @@ any-end f (x ∷ l) y = go (f x) (any-end f l y)
     go true h = refl
     go false h = h
 
-or-is : (c d : Bool) → (c or d) ≡ (c || d)
-unfolding _or_
-or-is true d = refl
-or-is false d = refl
-
 -- a turn of the search: what the code makes of the word at i
 pub has-more : (x : ℕ) (l : List ℕ) (i : ℕ) (found : Bool) (y : ℕ) → i < length l → found ≡ has x (take i l) → y ≡ getD l i 0 → (found || eqb y x) ≡ has x (take (i + 1) l)
 unfolding has
 has-more x l i found y h e q =
-    rw (e, q, add-one i, take-suc l i 0) (sym (any-end (λ z. eqb z x) (take i l) (getD l i 0) ∙ or-is (any (λ z. eqb z x) (take i l)) (eqb (getD l i 0) x)))
+    rw (e, q, add-one i, take-suc l i 0) (sym (any-end (λ z. eqb z x) (take i l) (getD l i 0) ∙ sym (or-is (any (λ z. eqb z x) (take i l)) (eqb (getD l i 0) x))))
 
 pub has-none : (x : ℕ) → has x [] ≡ false
 unfolding has any

@@ -8,7 +8,7 @@ use native.Mathlib.Omega.{arith}
 use native.Mathlib.Numerals.{add-one}
 use borrow.Author.Tests.{ltb-true, lt-ltb, le-ltb, le-leb, lt-leb, leb-true, leb-false, eq-eqb, ne-eqb}
 use lib.Dec.{eqb, leb}
-use lib.ListN.{length, getD, set, drop}
+use lib.ListN.{length, getD, set, drop, drop-of-length-le}
 use lib.Seq.{drop-cons}
 use Rattle.rules.specs.Table.{Entry, entry, Table, at, put, remove, each, update}
 use Rattle.rules.specs.WellFormed.{rising, rotationBefore}
@@ -39,6 +39,19 @@ module _ {A : Type 0} (f : A → Bool) where
   pub first-later : (l : List A) (i : ℕ) (d : A) → i < length l → f (getD l i d) ≡ false → firstWhere f (drop i l) ≡ suc (firstWhere f (drop (i + 1) l))
   unfolding firstWhere
   first-later l i d h e = rw (add-one i) (ap (firstWhere f) (drop-cons l i d h) ∙ rw e)
+
+-- a loop's search: found, passed, and at the end
+
+module _ {A : Type 0} (f : A → Bool) (l : List A) (i n : ℕ) (e : i + firstWhere f (drop i l) ≡ n) where
+  pub search-found : (d : A) → i < length l → f (getD l i d) ≡ true → i ≡ n
+  search-found d h t = omega (arith, first-here f l i d h t)
+
+  pub search-passed : (d : A) → i < length l → f (getD l i d) ≡ false → i + 1 + firstWhere f (drop (i + 1) l) ≡ n
+  search-passed d h t = omega (arith, first-later f l i d h t)
+
+  pub search-ended : length l ≤ i → i ≡ n
+  unfolding firstWhere
+  search-ended h = let z : firstWhere f (drop i l) ≡ 0 = ap (firstWhere f) (drop-of-length-le l {i = i} h) in omega arith
 
 -- ---- a key's place among rising keys
 

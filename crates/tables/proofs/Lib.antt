@@ -1,3 +1,4 @@
+pub mod Bools
 pub mod Parts
 pub mod Words
 pub mod Tables

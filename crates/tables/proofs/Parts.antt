@@ -1,11 +1,11 @@
 -- A part of a list: read where it stands, and put back as another.
 use Prim.Native.Nat.{ℕ, suc, _+_, _<_}
 use mathlib.Core.Path.{_≡_, ap, _∙_}
-use mathlib.Core.List.{List, [], _∷_, _++_, append-assoc}
+use mathlib.Core.List.{List, [], _∷_, _++_, append-assoc, append-nil}
 use native.Mathlib.Omega.{arith}
 use native.Mathlib.Nat.{zero-add}
-use lib.ListN.{length, getD, set, take, drop, length-append, List·getD-append}
-use lib.Seq.{take-at, drop-at, getD-append-add, set-append-left}
+use lib.ListN.{length, getD, set, take, drop, length-append, drop-of-length-le, List·getD-append}
+use lib.Seq.{take-at, drop-at, getD-append-add, set-append-left, sets, sets-eq}
 use borrow.Rule.Slice.PartMut.{putMid}
 
 pub mid-read : (P F R l : List ℕ) (a k : ℕ) → l ≡ P ++ (F ++ R) → length P ≡ a → length F ≡ k → take k (drop a l) ≡ F
@@ -53,3 +53,9 @@ module _ {A : Type 0} {part whole : A → List ℕ} {a : ℕ} (s : Spot part who
   spot-store x y ws b c v e q l g =
       let p : b ≡ length (s .front) + c = omega (arith, s .size) in
       rw (e ∙ s .is x, p, s .is y) (set-append-add (s .front) (part x ++ s .back) c v ∙ rw (set-append-left (part x) (s .back) c v l, g))
+
+-- stores one after another fill a list of their number
+pub filled : (t vs : List ℕ) → length t ≡ length vs → sets t 0 vs ≡ vs
+filled t vs h =
+    let z : drop (0 + length vs) t ≡ [] = drop-of-length-le t {i = 0 + length vs} (omega arith) in
+    sets-eq vs t 0 (omega arith) ∙ rw z (append-nil vs)

@@ -32,6 +32,20 @@ pad-is n l h =
 pub table-length : {A : Type 0} (f : A → List ℕ) (w cap : ℕ) (xs : List A) → length (table f w cap xs) ≡ 1 + cap * w
 table-length f w cap xs = omega (arith, length-pad (cap * w) (rowsWords f xs))
 
+-- a table of no rows is zeros
+pub none-words : {A : Type 0} (f : A → List ℕ) (w cap : ℕ) → table f w cap [] ≡ replicate (1 + cap * w) 0
+unfolding rowsWords
+none-words f w cap =
+    let e : 1 + cap * w ≡ suc (cap * w) = omega arith in
+    let z : cap * w - 0 ≡ cap * w = omega arith in
+    rw e (ap (λ (l : List ℕ). 0 ∷ l) (pad-is (cap * w) [] (omega arith) ∙ rw z))
+
+-- what `clear` makes of a table
+pub cleared : {A : Type 0} (f : A → List ℕ) (w cap : ℕ) (xs : List A) (t u : List ℕ) → t ≡ table f w cap xs → u ≡ replicate (length t) 0 → u ≡ table f w cap []
+cleared f w cap xs t u e q =
+    let n : length t ≡ 1 + cap * w = ap length e ∙ table-length f w cap xs in
+    q ∙ ap (λ (k : ℕ). replicate k 0) n ∙ sym (none-words f w cap)
+
 -- ---- rows
 
 module _ {A : Type 0} (f : A → List ℕ) (w : ℕ) (fw : (x : A) → length (f x) ≡ w) where

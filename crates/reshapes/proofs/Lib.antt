@@ -1,0 +1,2 @@
+pub mod OfReshapes
+pub mod OfSeats

@@ -1,0 +1,4 @@
+// The table of reshapes in lent words, by rising target: fields, seats and halves.
+pub mod fields;
+pub mod halves;
+pub mod seats;

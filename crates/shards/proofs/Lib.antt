@@ -1,0 +1,3 @@
+pub mod OfBounds
+pub mod OfRotations
+pub mod Order

@@ -1,0 +1,14 @@
+use Rattle.board.proofs.Sections.{bounds, count-is}
+use borrow.Author.Needs.{needs}
+use Rattle.shards.proofs.bounds.count.Statement.{statement}
+use Rattle.shards.proofs.bounds.count.Tie as tie
+
+returns : tie.Need-returns
+returns c = λ b h. count-is bounds _ b h
+
+pub count-spec : {M : Type 1} → statement M
+count-spec =
+    tie.close
+    (tie.spec
+    (λ c. search needs)
+    returns)

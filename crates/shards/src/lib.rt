@@ -1,0 +1,3 @@
+// What is kept by shard beside the committees, in lent words: boundaries and rotations.
+pub mod bounds;
+pub mod rotations;
