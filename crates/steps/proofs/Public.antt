@@ -1,16 +1,15 @@
 -- From the check and the inner form to the record of the public step; once, for every step.
-use mathlib.Core.Path.{_≡_, refl, ap, sym, _∙_}
+use mathlib.Core.Path.{_≡_, refl, ap, _∙_}
 use mathlib.Core.List.{List}
-use mathlib.Core.Bool.{true}
 use Prim.Native.Nat.{ℕ}
 use lib.ListN.{length}
 use Rattle.types.specs.declared.Outcome.{Outcome}
 use Rattle.rules.specs.Board.{Board}
 use Rattle.rules.specs.Turns.{Result}
-use Rattle.board.specs.Layout.{boardSize, encode}
-use Rattle.board.specs.Permitted.{WellHeld, Permitted, refused, answered, PermittedStep, notWellFormed}
+use Rattle.board.specs.Layout.{boardSize}
+use Rattle.board.specs.Permitted.{WellHeld, refused, answered, PermittedStep, notWellFormed}
 use Rattle.board.proofs.Widths.{board-wide}
-use Rattle.steps.specs.Inner.{Step, Steps}
+use Rattle.steps.specs.Inner.{Steps}
 
 -- words that hold a board are as many as the layout has
 pub held-wide : (ws : List ℕ) → WellHeld ws → length ws ≡ boardSize
