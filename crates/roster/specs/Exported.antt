@@ -1,0 +1,23 @@
+-- What an exported function says: numbers and lent words alone.
+use mathlib.Core.Path.{_≡_}
+use mathlib.Core.List.{List, [], _∷_}
+use mathlib.Core.Bool.{Bool, true}
+use Prim.Native.Nat.{ℕ}
+use Rattle.types.specs.Answers.{numberOf}
+use Rattle.types.specs.declared.Outcome.{Outcome}
+use Rattle.rules.specs.Board.{Board}
+use Rattle.rules.specs.Turns.{Result}
+use Rattle.board.specs.Permitted.{WellHeld, PermittedStep}
+
+-- a step: the answer's number; handled and draws used in `results`; the board's words
+pub record ExportedStep (step : Board → Result) (before after : List ℕ) (number : ℕ) (results : List ℕ) : Type 0 where
+  pub outcome : Outcome
+  pub permitted : PermittedStep step before after outcome
+  pub answer : number ≡ numberOf (outcome .answer)
+  pub counts : results ≡ outcome .handled ∷ outcome .«draws_used» ∷ []
+
+-- a check: 1 exactly if the words hold a well-formed board, else 0
+pub record ExportedCheck (ws : List ℕ) (number : ℕ) : Type 0 where
+  pub yes : number ≡ 1 → WellHeld ws
+  pub held : WellHeld ws → number ≡ 1
+  pub bit : (number ≡ 1 → ⊥) → number ≡ 0
