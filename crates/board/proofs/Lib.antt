@@ -7,3 +7,4 @@ pub mod OfSettings
 pub mod OfMachines
 pub mod OfCommittees
 pub mod Keyed
+pub mod Moves

@@ -1,2 +1,3 @@
 pub mod OfReshapes
 pub mod OfSeats
+pub mod SeatMoves
