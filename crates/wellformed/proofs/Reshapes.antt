@@ -4,7 +4,7 @@ use mathlib.Core.Path.{_≡_, refl, ap, sym, _∙_}
 use mathlib.Core.List.{List, [], _∷_, _++_}
 use mathlib.Core.Logic.{_⊎_, inl, inr}
 use mathlib.Core.Option.{Option, none, some}
-use mathlib.Core.Bool.{Bool, true, false, cond, false≢true}
+use mathlib.Core.Bool.{Bool, true, false, cond, false≢true, or-false}
 use native.Mathlib.Omega.{arith}
 use borrow.Author.Tests.{leb-true, eqb-true, eqb-false, eq-eqb}
 use lib.Dec.{eqb, leb}
@@ -21,7 +21,7 @@ use Rattle.rules.proofs.Tests.{and-parts, and-joins, or-cases, or-left, or-righ
 use Rattle.tables.specs.Rows.{idTable}
 use Rattle.board.specs.Layout.{seatWidth, seatsAt, leftAt, rightAt, reshapeWidth, seatTable, reshapeHead, reshapeRow}
 use Rattle.board.proofs.Widths.{seat-wide, reshape-wide}
-use Rattle.wellformed.specs.Check.{at, between, allPass, keyRises, seatOk, seatsOk, halvesOk, headOk, idsOk, reshapeOk}
+use Rattle.wellformed.specs.Check.{at, between, allPass, anyPass, rises, seatOk, seatsOk, halvesOk, headOk, idsOk, reshapeOk}
 use Rattle.wellformed.proofs.Tests.{Some, pass-parts, pass-joins, any-cases, any-joins}
 use Rattle.wellformed.proofs.Decides.{Words, word-at, Held, Decides, ids-decides, table-decides}
 use Rattle.wellformed.proofs.Rows.{gets, gets-is, gets-all, between-length, between-words, to-end, bit-back, bit-small, option-sound, option-complete}
@@ -57,9 +57,9 @@ unfolding seatOk seatWords goodSeat
 seat-complete g e h = pass-joins _ (eq-eqb _ _ (child-complete (e .val .child) g (and-parts _ _ h .1)), (bit-small (e .val .ready), tt))
 
 seats-decide : (g : ℕ) → Decides seatTable (goodTable mostSeats (goodSeat g)) (1 + mostSeats * seatWidth) (seatsOk g)
-unfolding seatWords
+unfolding seatWords allPass anyPass
 seats-decide g =
-    table-decides seatWords (goodSeat g) seatWidth (seatOk g) (record { wide = seat-wide; sound = seat-sound g; complete = seat-complete g }) keyBefore keyRises (λ x y a b. refl) mostSeats
+    table-decides seatWords (goodSeat g) seatWidth (seatOk g) (record { wide = seat-wide; sound = seat-sound g; complete = seat-complete g }) keyBefore (rises false) (λ x y a b. or-false _) mostSeats
 
 -- ---- the kind, quiet and halves
 

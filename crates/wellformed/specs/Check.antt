@@ -45,13 +45,9 @@ allZero = every (λ x. eqb x 0)
 
 -- ---- tables
 
--- the first word rises
-abbrev pub keyRises : List ℕ → List ℕ → Bool
-keyRises s t = ltb (at s 0) (at t 0)
-
--- the first two words rise, as a pair
-abbrev pub pairRises : List ℕ → List ℕ → Bool
-pairRises s t = anyPass (ltb (at s 0) (at t 0) ∷ allPass (eqb (at s 0) (at t 0) ∷ ltb (at s 1) (at t 1) ∷ []) ∷ [])
+-- the first word rises; or, of rows in pairs, it is the same and the second rises
+abbrev pub rises : Bool → List ℕ → List ℕ → Bool
+rises pairs s t = anyPass (ltb (at s 0) (at t 0) ∷ allPass (pairs ∷ eqb (at s 0) (at t 0) ∷ ltb (at s 1) (at t 1) ∷ []) ∷ [])
 
 -- ok: a row is good; lt: a row's words, with any after them, are below the next's
 module _ (ok : List ℕ → Bool) (lt : List ℕ → List ℕ → Bool) (w : ℕ) where
@@ -77,6 +73,7 @@ idsOk cap t = allPass (leb (at t 0) cap ∷ distinct (take (at t 0) (drop 1 t)) 
 unfoldable pub caseOk : ℕ → ℕ → ℕ → ℕ → ℕ → ℕ → ℕ → ℕ → ℕ → Bool
 caseOk code mark ready stamp k low high r s = allPass (eqb code k ∷ within low high mark ∷ leb ready r ∷ leb stamp s ∷ [])
 
+-- pooled, seated, observing, short, other: the words that a place does not use are 0
 abbrev pub placeCases : ℕ → ℕ → ℕ → ℕ → List Bool
 placeCases c m r s =
     caseOk c m r s 0 0 0 0 0
@@ -86,11 +83,8 @@ placeCases c m r s =
     ∷ caseOk c m r s 4 1 255 0 0
     ∷ []
 
-unfoldable pub placeOk : ℕ → ℕ → ℕ → ℕ → Bool
-placeOk c m r s = anyPass (placeCases c m r s)
-
 unfoldable pub machineOk : List ℕ → Bool
-machineOk t = placeOk (at t 1) (at t 2) (at t 3) (at t 4)
+machineOk t = anyPass (placeCases (at t 1) (at t 2) (at t 3) (at t 4))
 
 unfoldable pub committeeOk : List ℕ → Bool
 committeeOk t = allPass (isShard (at t 0) ∷ idsOk mostMembers (between membersAt committeeWidth t) ∷ [])
@@ -109,7 +103,7 @@ unfoldable pub seatOk : ℕ → List ℕ → Bool
 seatOk target t = allPass (eqb (parentOf (at t 1)) target ∷ leb (at t 2) 1 ∷ [])
 
 abbrev pub seatsOk : ℕ → List ℕ → Bool
-seatsOk target = tableOk (seatOk target) keyRises seatWidth mostSeats
+seatsOk target = tableOk (seatOk target) (rises false) seatWidth mostSeats
 
 -- the kind, the flag of the terminal, and how many are in each half: a scheduled split, or both empty
 unfoldable pub halvesOk : ℕ → ℕ → ℕ → ℕ → Bool
@@ -147,12 +141,13 @@ rowOk Boundaries = boundaryOk
 rowOk Rotations = rotationOk
 rowOk Reshapes = reshapeOk
 
-abbrev pub risesOf : RowKind → List ℕ → List ℕ → Bool
-risesOf Machines = keyRises
-risesOf Committees = keyRises
-risesOf Boundaries = keyRises
-risesOf Rotations = pairRises
-risesOf Reshapes = keyRises
+-- by shard, then victim
+abbrev pub inPairs : RowKind → Bool
+inPairs Machines = false
+inPairs Committees = false
+inPairs Boundaries = false
+inPairs Rotations = true
+inPairs Reshapes = false
 
 abbrev pub widthOf : RowKind → ℕ
 widthOf Machines = machineWidth
@@ -163,7 +158,7 @@ widthOf Reshapes = reshapeWidth
 
 -- a table of any kind of rows
 abbrev pub sectionOk : RowKind → ℕ → List ℕ → Bool
-sectionOk k = tableOk (rowOk k) (risesOf k) (widthOf k)
+sectionOk k = tableOk (rowOk k) (rises (inPairs k)) (widthOf k)
 
 -- ---- the board
 

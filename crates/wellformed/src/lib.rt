@@ -1,14 +1,14 @@
 // Whether lent words, of any length and content, hold a well-formed board: one pass, without copies.
 // The tests are joined by `&` and `|`, which leave no branch.
 ghost use mathlib.Core.Path.{_≡_};
-ghost use mathlib.Core.Bool.{not};
+ghost use mathlib.Core.Bool.{false, not};
 ghost use Prim.Native.Nat.{_+_, _≤_};
 ghost use lib.ListN.{length};
 ghost use Rattle.rules.specs.Lists.{has, distinct};
 ghost use Rattle.rules.specs.WellFormed.{within};
 ghost use Rattle.board.specs.Layout.{machineWidth, committeeWidth, boundaryWidth, rotationWidth, seatWidth, reshapeWidth, machinesAt};
 ghost use Rattle.wellformed.specs.Tells.{Tells};
-ghost use Rattle.wellformed.specs.Check.{at, allZero, idsOk, firstOk, keyRises, pairRises, caseOk, placeOk, machineOk, committeeOk, optionOk, boundaryOk, rotationOk, seatOk, seatsOk, halvesOk, headOk, reshapeOk, rowOk, risesOf, widthOf, sectionOk, settingsOk, wellFormedWords};
+ghost use Rattle.wellformed.specs.Check.{at, allZero, idsOk, rises, firstOk, caseOk, machineOk, committeeOk, optionOk, boundaryOk, rotationOk, seatOk, seatsOk, headOk, reshapeOk, rowOk, inPairs, widthOf, sectionOk, settingsOk};
 
 // ---- The limits and ranges of rules/specs/Board.antt
 
@@ -36,7 +36,17 @@ const LAST_SHARD: u64 = 65535;
 
 const LAST_TARGET: u64 = 32767;
 
+const LAST_MARK: u64 = 255;
+
+const MOST_EPOCHS: u64 = 1000000;
+
+const MOST_IN_FLIGHT: u64 = 48;
+
 // ---- The layout of board/specs/Layout.antt
+
+const SETTINGS_COUNT: u64 = 6;
+
+const SETTINGS_ROOM: usize = 15;
 
 const MACHINE_WIDTH: usize = 5;
 
@@ -58,7 +68,7 @@ const RIGHT_AT: usize = LEFT_AT + 1 + MOST_HALF;
 
 const RESHAPE_WIDTH: usize = RIGHT_AT + 1 + MOST_HALF;
 
-const MACHINES_AT: usize = 16;
+const MACHINES_AT: usize = 1 + SETTINGS_ROOM;
 
 const COMMITTEES_AT: usize = MACHINES_AT + 1 + MOST_MACHINES * MACHINE_WIDTH;
 
@@ -128,29 +138,20 @@ fn ids_ok(cap: usize, t: &[u64]) -> bool
     all_distinct(&t[1..e]) & all_zero(&t[e..])
 }
 
-// The first word, and 0 where there is none.
-fn first(t: &[u64]) -> u64
-    ensures { λ r. ⌜ r ≡ at (now (t .entry)) 0 ⌝ }
+// A word, and 0 where there is none.
+fn word_at(t: &[u64], i: usize) -> u64
+    ensures { λ r. ⌜ r ≡ at (now (t .entry)) i ⌝ }
 {
-    if 0 < t.len() { t[0] } else { 0 }
+    if i < t.len() { t[i] } else { 0 }
 }
 
-fn second(t: &[u64]) -> u64
-    ensures { λ r. ⌜ r ≡ at (now (t .entry)) 1 ⌝ }
+// A row's words are below the next row's: by their first words or, in pairs, by the first two.
+fn rises(pairs: bool, s: &[u64], t: &[u64]) -> bool
+    ensures { λ r. ⌜ r ≡ rises pairs (now (s .entry)) (now (t .entry)) ⌝ }
 {
-    if 1 < t.len() { t[1] } else { 0 }
-}
-
-fn key_rises(s: &[u64], t: &[u64]) -> bool
-    ensures { λ r. ⌜ r ≡ keyRises (now (s .entry)) (now (t .entry)) ⌝ }
-{
-    first(s) < first(t)
-}
-
-fn pair_rises(s: &[u64], t: &[u64]) -> bool
-    ensures { λ r. ⌜ r ≡ pairRises (now (s .entry)) (now (t .entry)) ⌝ }
-{
-    (first(s) < first(t)) | ((first(s) == first(t)) & (second(s) < second(t)))
+    let a = word_at(s, 0);
+    let b = word_at(t, 0);
+    (a < b) | (pairs & (a == b) & (word_at(s, 1) < word_at(t, 1)))
 }
 
 // ---- Rows
@@ -172,21 +173,19 @@ fn case_ok(
 }
 
 // Pooled, seated, observing, short or other: the words that a place does not use are 0.
-fn place_ok(c: u64, m: u64, r: u64, s: u64) -> bool
-    ensures { λ x. ⌜ x ≡ placeOk c m r s ⌝ }
-{
-    case_ok(c, m, r, s, 0, 0, 0, 0, 0)
-        | case_ok(c, m, r, s, 1, 1, LAST_SHARD, 1, LAST_STAMP)
-        | case_ok(c, m, r, s, 2, 1, LAST_SHARD, 0, LAST_STAMP)
-        | case_ok(c, m, r, s, 3, 0, 0, 0, 0)
-        | case_ok(c, m, r, s, 4, 1, 255, 0, 0)
-}
-
 fn machine_ok(t: &[u64]) -> bool
     requires { ⌜ length (now t) ≡ machineWidth ⌝ }
     ensures { λ r. ⌜ r ≡ machineOk (now (t .entry)) ⌝ }
 {
-    place_ok(t[1], t[2], t[3], t[4])
+    let c = t[1];
+    let m = t[2];
+    let r = t[3];
+    let s = t[4];
+    case_ok(c, m, r, s, 0, 0, 0, 0, 0)
+        | case_ok(c, m, r, s, 1, 1, LAST_SHARD, 1, LAST_STAMP)
+        | case_ok(c, m, r, s, 2, 1, LAST_SHARD, 0, LAST_STAMP)
+        | case_ok(c, m, r, s, 3, 0, 0, 0, 0)
+        | case_ok(c, m, r, s, 4, 1, LAST_MARK, 0, 0)
 }
 
 fn committee_ok(t: &[u64]) -> bool
@@ -232,12 +231,12 @@ fn seat_ok(target: u64, t: &[u64]) -> bool
 }
 
 fn first_seat_ok(target: u64, n: usize, t: &[u64]) -> bool
-    ensures { λ r. ⌜ r ≡ firstOk (seatOk target) keyRises seatWidth n (now (t .entry)) ⌝ }
+    ensures { λ r. ⌜ r ≡ firstOk (seatOk target) (rises false) seatWidth n (now (t .entry)) ⌝ }
 {
     if t.len() < SEAT_WIDTH {
         return false;
     }
-    seat_ok(target, &t[..SEAT_WIDTH]) & ((n == 1) | key_rises(t, &t[SEAT_WIDTH..]))
+    seat_ok(target, &t[..SEAT_WIDTH]) & ((n == 1) | rises(false, t, &t[SEAT_WIDTH..]))
 }
 
 // As `table_ok`, which calls it through `reshape_ok`.
@@ -258,12 +257,6 @@ fn seats_ok(target: u64, t: &[u64]) -> bool
         n -= 1;
     }
     all_zero(&t[a..])
-}
-
-fn halves_ok(k: u64, f: u64, l: u64, r: u64) -> bool
-    ensures { λ x. ⌜ x ≡ halvesOk k f l r ⌝ }
-{
-    ((k == 0) & (f == 1)) | ((l == 0) & (r == 0))
 }
 
 fn head_ok(t: &[u64]) -> bool
@@ -287,7 +280,7 @@ fn reshape_ok(t: &[u64]) -> bool
         & seats_ok(t[0], &t[SEATS_AT..LEFT_AT])
         & ids_ok(MOST_HALF, &t[LEFT_AT..RIGHT_AT])
         & ids_ok(MOST_HALF, &t[RIGHT_AT..RESHAPE_WIDTH])
-        & halves_ok(t[1], t[5], t[LEFT_AT], t[RIGHT_AT])
+        & (((t[1] == 0) & (t[5] == 1)) | ((t[LEFT_AT] == 0) & (t[RIGHT_AT] == 0)))
 }
 
 // ---- A table of any kind of rows
@@ -312,6 +305,19 @@ impl RowKind {
             RowKind::Reshapes => RESHAPE_WIDTH,
         }
     }
+
+    // Rotations are told apart by shard, then victim.
+    fn in_pairs(self) -> bool
+        ensures { λ r. ⌜ r ≡ inPairs self ⌝ }
+    {
+        match self {
+            RowKind::Machines => false,
+            RowKind::Committees => false,
+            RowKind::Boundaries => false,
+            RowKind::Rotations => true,
+            RowKind::Reshapes => false,
+        }
+    }
 }
 
 fn row_ok(k: RowKind, t: &[u64]) -> bool
@@ -327,27 +333,15 @@ fn row_ok(k: RowKind, t: &[u64]) -> bool
     }
 }
 
-fn rises(k: RowKind, s: &[u64], t: &[u64]) -> bool
-    ensures { λ r. ⌜ r ≡ risesOf k (now (s .entry)) (now (t .entry)) ⌝ }
-{
-    match k {
-        RowKind::Machines => key_rises(s, t),
-        RowKind::Committees => key_rises(s, t),
-        RowKind::Boundaries => key_rises(s, t),
-        RowKind::Rotations => pair_rises(s, t),
-        RowKind::Reshapes => key_rises(s, t),
-    }
-}
-
 // The first of n rows: it is there, it is good, and it is below the next.
-fn first_ok(k: RowKind, n: usize, t: &[u64]) -> bool
-    ensures { λ r. ⌜ r ≡ firstOk (rowOk k) (risesOf k) (widthOf k) n (now (t .entry)) ⌝ }
+fn first_ok(k: RowKind, w: usize, n: usize, t: &[u64]) -> bool
+    requires { ⌜ w ≡ widthOf k ⌝ }
+    ensures { λ r. ⌜ r ≡ firstOk (rowOk k) (rises (inPairs k)) (widthOf k) n (now (t .entry)) ⌝ }
 {
-    let w = k.width();
     if t.len() < w {
         return false;
     }
-    row_ok(k, &t[..w]) & ((n == 1) | rises(k, t, &t[w..]))
+    row_ok(k, &t[..w]) & ((n == 1) | rises(k.in_pairs(), t, &t[w..]))
 }
 
 fn table_ok(k: RowKind, cap: usize, t: &[u64]) -> bool
@@ -361,7 +355,7 @@ fn table_ok(k: RowKind, cap: usize, t: &[u64]) -> bool
     }
     let mut a: usize = 1;
     while 0 < n {
-        if !first_ok(k, n, &t[a..]) {
+        if !first_ok(k, w, n, &t[a..]) {
             return false;
         }
         a += w;
@@ -376,53 +370,47 @@ fn settings_ok(t: &[u64]) -> bool
     requires { ⌜ length (now t) ≡ machinesAt ⌝ }
     ensures { λ r. ⌜ r ≡ settingsOk (now (t .entry)) ⌝ }
 {
-    (t[0] == 6)
+    (t[0] == SETTINGS_COUNT)
         & (t[1] <= LAST_EPOCH)
         & inside(4, 32, t[2])
-        & (t[3] <= 1000000)
-        & (t[4] <= 1000000)
-        & inside(1, 1000000, t[5])
-        & (t[6] <= 48)
+        & (t[3] <= MOST_EPOCHS)
+        & (t[4] <= MOST_EPOCHS)
+        & inside(1, MOST_EPOCHS, t[5])
+        & (t[6] <= MOST_IN_FLIGHT)
         & all_zero(&t[7..MACHINES_AT])
-}
-
-fn words_ok(t: &[u64]) -> bool
-    ensures { λ r. ⌜ r ≡ wellFormedWords (now (t .entry)) ⌝ }
-{
-    if t.len() != BOARD_SIZE {
-        return false;
-    }
-    settings_ok(&t[0..MACHINES_AT])
-        & table_ok(
-            RowKind::Machines,
-            MOST_MACHINES,
-            &t[MACHINES_AT..COMMITTEES_AT],
-        )
-        & table_ok(
-            RowKind::Committees,
-            MOST_COMMITTEES,
-            &t[COMMITTEES_AT..BOUNDS_AT],
-        )
-        & table_ok(
-            RowKind::Boundaries,
-            MOST_BOUNDS,
-            &t[BOUNDS_AT..ROTATIONS_AT],
-        )
-        & table_ok(
-            RowKind::Rotations,
-            MOST_ROTATIONS,
-            &t[ROTATIONS_AT..RESHAPES_AT],
-        )
-        & table_ok(
-            RowKind::Reshapes,
-            MOST_RESHAPES,
-            &t[RESHAPES_AT..BOARD_SIZE],
-        )
 }
 
 // Whether the words, of any length, are those of a well-formed board.
 pub fn well_formed(board: &[u64]) -> bool
     ensures { λ r. ⌜ Tells (now (board .entry)) r ⌝ }
 {
-    words_ok(board)
+    if board.len() != BOARD_SIZE {
+        return false;
+    }
+    settings_ok(&board[0..MACHINES_AT])
+        & table_ok(
+            RowKind::Machines,
+            MOST_MACHINES,
+            &board[MACHINES_AT..COMMITTEES_AT],
+        )
+        & table_ok(
+            RowKind::Committees,
+            MOST_COMMITTEES,
+            &board[COMMITTEES_AT..BOUNDS_AT],
+        )
+        & table_ok(
+            RowKind::Boundaries,
+            MOST_BOUNDS,
+            &board[BOUNDS_AT..ROTATIONS_AT],
+        )
+        & table_ok(
+            RowKind::Rotations,
+            MOST_ROTATIONS,
+            &board[ROTATIONS_AT..RESHAPES_AT],
+        )
+        & table_ok(
+            RowKind::Reshapes,
+            MOST_RESHAPES,
+            &board[RESHAPES_AT..BOARD_SIZE],
+        )
 }

@@ -1,4 +1,4 @@
-use Rattle.wellformed.specs.Check.{reshapeOk, allPass}
+use Rattle.wellformed.specs.Check.{reshapeOk, halvesOk, allPass, anyPass}
 use borrow.Author.Needs.{needs}
 use Rattle.wellformed.proofs.reshape_ok.Statement.{statement}
 use Rattle.wellformed.proofs.reshape_ok.Tie as tie
@@ -45,23 +45,20 @@ part-ids-ok-end-2 c = search needs
 ids-ok-requires-2 : tie.Need-ids-ok-requires-2
 ids-ok-requires-2 c κs = search needs
 
-shared-slice-read-halves-ok : tie.Need-shared-slice-read-halves-ok
-shared-slice-read-halves-ok c = search needs
+shared-slice-read-result : tie.Need-shared-slice-read-result
+shared-slice-read-result c = search needs
 
-shared-slice-read-halves-ok-2 : tie.Need-shared-slice-read-halves-ok-2
-shared-slice-read-halves-ok-2 c = search needs
+shared-slice-read-result-2 : tie.Need-shared-slice-read-result-2
+shared-slice-read-result-2 c = search needs
 
-shared-slice-read-halves-ok-3 : tie.Need-shared-slice-read-halves-ok-3
-shared-slice-read-halves-ok-3 c = search needs
+shared-slice-read-result-3 : tie.Need-shared-slice-read-result-3
+shared-slice-read-result-3 c = search needs
 
-shared-slice-read-halves-ok-4 : tie.Need-shared-slice-read-halves-ok-4
-shared-slice-read-halves-ok-4 c = search needs
-
-halves-ok-requires : tie.Need-halves-ok-requires
-halves-ok-requires c κs = search needs
+shared-slice-read-result-4 : tie.Need-shared-slice-read-result-4
+shared-slice-read-result-4 c = search needs
 
 returns : tie.Need-returns
-unfolding reshapeOk allPass
+unfolding reshapeOk halvesOk allPass anyPass
 returns c = cc
 
 pub reshape-ok-spec : {M : Type 1} → statement M
@@ -82,9 +79,8 @@ reshape-ok-spec =
     part-ids-ok-start-2
     part-ids-ok-end-2
     ids-ok-requires-2
-    shared-slice-read-halves-ok
-    shared-slice-read-halves-ok-2
-    shared-slice-read-halves-ok-3
-    shared-slice-read-halves-ok-4
-    halves-ok-requires
+    shared-slice-read-result
+    shared-slice-read-result-2
+    shared-slice-read-result-3
+    shared-slice-read-result-4
     returns)
