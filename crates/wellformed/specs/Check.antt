@@ -105,32 +105,28 @@ seatOk target t = allPass (eqb (parentOf (at t 1)) target ∷ leb (at t 2) 1 ∷
 abbrev pub seatsOk : ℕ → List ℕ → Bool
 seatsOk target = tableOk (seatOk target) (rises false) seatWidth mostSeats
 
--- the kind, the flag of the terminal, and how many are in each half: a scheduled split, or both empty
-unfoldable pub halvesOk : ℕ → ℕ → ℕ → ℕ → Bool
-halvesOk k f l r = anyPass (allPass (eqb k 0 ∷ eqb f 1 ∷ []) ∷ allPass (eqb l 0 ∷ eqb r 0 ∷ []) ∷ [])
+-- target, admitted, drain-by and terminal
+unfoldable pub epochsOk : List ℕ → Bool
+epochsOk t = allPass (isTarget (at t 0) ∷ isStamp (at t 2) ∷ optionOk (at t 3) (at t 4) ∷ optionOk (at t 5) (at t 6) ∷ [])
 
--- the nine words that a reshape begins with; quiet right is at most the kind, which is 0 for a split
-unfoldable pub headOk : List ℕ → Bool
-headOk t =
+-- kind, quiet left and quiet right, which is at most the kind: 0 for a split
+unfoldable pub flagsOk : List ℕ → Bool
+flagsOk t = allPass (leb (at t 1) 1 ∷ leb (at t 7) 1 ∷ leb (at t 8) (at t 1) ∷ [])
+
+-- a split with a terminal, or both halves empty
+unfoldable pub scheduledOk : ℕ → ℕ → ℕ → ℕ → Bool
+scheduledOk kind flag left right = anyPass (allPass (eqb kind 0 ∷ eqb flag 1 ∷ []) ∷ allPass (eqb left 0 ∷ eqb right 0 ∷ []) ∷ [])
+
+unfoldable pub halvesOk : List ℕ → Bool
+halvesOk t =
     allPass
-    (isTarget (at t 0)
-    ∷ leb (at t 1) 1
-    ∷ isStamp (at t 2)
-    ∷ optionOk (at t 3) (at t 4)
-    ∷ optionOk (at t 5) (at t 6)
-    ∷ leb (at t 7) 1
-    ∷ leb (at t 8) (at t 1)
+    (idsOk mostHalf (between leftAt rightAt t)
+    ∷ idsOk mostHalf (between rightAt reshapeWidth t)
+    ∷ scheduledOk (at t 1) (at t 5) (at t leftAt) (at t rightAt)
     ∷ [])
 
 unfoldable pub reshapeOk : List ℕ → Bool
-reshapeOk t =
-    allPass
-    (headOk t
-    ∷ seatsOk (at t 0) (between seatsAt leftAt t)
-    ∷ idsOk mostHalf (between leftAt rightAt t)
-    ∷ idsOk mostHalf (between rightAt reshapeWidth t)
-    ∷ halvesOk (at t 1) (at t 5) (at t leftAt) (at t rightAt)
-    ∷ [])
+reshapeOk t = allPass (epochsOk t ∷ flagsOk t ∷ seatsOk (at t 0) (between seatsAt leftAt t) ∷ halvesOk t ∷ [])
 
 -- ---- kinds of rows
 
@@ -157,33 +153,59 @@ widthOf Rotations = rotationWidth
 widthOf Reshapes = reshapeWidth
 
 -- a table of any kind of rows
-abbrev pub sectionOk : RowKind → ℕ → List ℕ → Bool
-sectionOk k = tableOk (rowOk k) (rises (inPairs k)) (widthOf k)
+abbrev pub kindOk : RowKind → ℕ → List ℕ → Bool
+kindOk k = tableOk (rowOk k) (rises (inPairs k)) (widthOf k)
+
+-- where a kind's section starts and ends, and how many rows it has room for
+abbrev pub startOf : RowKind → ℕ
+startOf Machines = machinesAt
+startOf Committees = committeesAt
+startOf Boundaries = boundsAt
+startOf Rotations = rotationsAt
+startOf Reshapes = reshapesAt
+
+abbrev pub endOf : RowKind → ℕ
+endOf Machines = committeesAt
+endOf Committees = boundsAt
+endOf Boundaries = rotationsAt
+endOf Rotations = reshapesAt
+endOf Reshapes = boardSize
+
+abbrev pub mostOf : RowKind → ℕ
+mostOf Machines = mostMachines
+mostOf Committees = mostCommittees
+mostOf Boundaries = mostBounds
+mostOf Rotations = mostRotations
+mostOf Reshapes = mostReshapes
+
+abbrev pub sectionOk : RowKind → List ℕ → Bool
+sectionOk k t = kindOk k (mostOf k) (between (startOf k) (endOf k) t)
 
 -- ---- the board
 
--- six numbers are set, and the room for more is zeros
-unfoldable pub settingsOk : List ℕ → Bool
-settingsOk t =
+unfoldable pub numbersOk : List ℕ → Bool
+numbersOk t =
     allPass
-    (eqb (at t 0) 6
-    ∷ leb (at t 1) lastEpoch
+    (leb (at t 1) lastEpoch
     ∷ within 4 32 (at t 2)
     ∷ leb (at t 3) 1000000
     ∷ leb (at t 4) 1000000
     ∷ within 1 1000000 (at t 5)
     ∷ leb (at t 6) 48
-    ∷ allZero (between 7 machinesAt t)
     ∷ [])
+
+-- six numbers are set, and the room for more is zeros
+unfoldable pub settingsOk : List ℕ → Bool
+settingsOk t = allPass (eqb (at t 0) 6 ∷ numbersOk t ∷ allZero (between 7 machinesAt t) ∷ [])
 
 unfoldable pub wellFormedWords : List ℕ → Bool
 wellFormedWords t =
     allPass
     (eqb (length t) boardSize
     ∷ settingsOk (between 0 machinesAt t)
-    ∷ sectionOk Machines mostMachines (between machinesAt committeesAt t)
-    ∷ sectionOk Committees mostCommittees (between committeesAt boundsAt t)
-    ∷ sectionOk Boundaries mostBounds (between boundsAt rotationsAt t)
-    ∷ sectionOk Rotations mostRotations (between rotationsAt reshapesAt t)
-    ∷ sectionOk Reshapes mostReshapes (between reshapesAt boardSize t)
+    ∷ sectionOk Machines t
+    ∷ sectionOk Committees t
+    ∷ sectionOk Boundaries t
+    ∷ sectionOk Rotations t
+    ∷ sectionOk Reshapes t
     ∷ [])

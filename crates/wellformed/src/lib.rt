@@ -6,9 +6,9 @@ ghost use Prim.Native.Nat.{_+_, _≤_};
 ghost use lib.ListN.{length};
 ghost use Rattle.rules.specs.Lists.{has, distinct};
 ghost use Rattle.rules.specs.WellFormed.{within};
-ghost use Rattle.board.specs.Layout.{machineWidth, committeeWidth, boundaryWidth, rotationWidth, seatWidth, reshapeWidth, machinesAt};
+ghost use Rattle.board.specs.Layout.{machineWidth, committeeWidth, boundaryWidth, rotationWidth, seatWidth, reshapeWidth, machinesAt, boardSize};
 ghost use Rattle.wellformed.specs.Tells.{Tells};
-ghost use Rattle.wellformed.specs.Check.{at, allZero, idsOk, rises, firstOk, caseOk, machineOk, committeeOk, optionOk, boundaryOk, rotationOk, seatOk, seatsOk, headOk, reshapeOk, rowOk, inPairs, widthOf, sectionOk, settingsOk};
+ghost use Rattle.wellformed.specs.Check.{at, allZero, idsOk, rises, firstOk, caseOk, machineOk, committeeOk, optionOk, boundaryOk, rotationOk, seatOk, seatsOk, epochsOk, flagsOk, halvesOk, reshapeOk, rowOk, inPairs, widthOf, startOf, endOf, mostOf, kindOk, sectionOk, numbersOk, settingsOk};
 
 // ---- The limits and ranges of rules/specs/Board.antt
 
@@ -42,9 +42,15 @@ const MOST_EPOCHS: u64 = 1000000;
 
 const MOST_IN_FLIGHT: u64 = 48;
 
+const LEAST_SIZE: u64 = 4;
+
+const MOST_SIZE: u64 = 32;
+
 // ---- The layout of board/specs/Layout.antt
 
 const SETTINGS_COUNT: u64 = 6;
+
+const SETTINGS_END: usize = 7;
 
 const SETTINGS_ROOM: usize = 15;
 
@@ -259,28 +265,40 @@ fn seats_ok(target: u64, t: &[u64]) -> bool
     all_zero(&t[a..])
 }
 
-fn head_ok(t: &[u64]) -> bool
+// Target, admitted, drain-by and terminal.
+fn epochs_ok(t: &[u64]) -> bool
     requires { ⌜ length (now t) ≡ reshapeWidth ⌝ }
-    ensures { λ r. ⌜ r ≡ headOk (now (t .entry)) ⌝ }
+    ensures { λ r. ⌜ r ≡ epochsOk (now (t .entry)) ⌝ }
 {
     inside(1, LAST_TARGET, t[0])
-        & (t[1] <= 1)
         & (t[2] <= LAST_STAMP)
         & option_ok(t[3], t[4])
         & option_ok(t[5], t[6])
-        & (t[7] <= 1)
-        & (t[8] <= t[1])
+}
+
+// Kind, quiet left and quiet right: the last is at most the kind, so 0 for a split.
+fn flags_ok(t: &[u64]) -> bool
+    requires { ⌜ length (now t) ≡ reshapeWidth ⌝ }
+    ensures { λ r. ⌜ r ≡ flagsOk (now (t .entry)) ⌝ }
+{
+    (t[1] <= 1) & (t[7] <= 1) & (t[8] <= t[1])
+}
+
+// Distinct ids, and none unless a split has its terminal.
+fn halves_ok(t: &[u64]) -> bool
+    requires { ⌜ length (now t) ≡ reshapeWidth ⌝ }
+    ensures { λ r. ⌜ r ≡ halvesOk (now (t .entry)) ⌝ }
+{
+    ids_ok(MOST_HALF, &t[LEFT_AT..RIGHT_AT])
+        & ids_ok(MOST_HALF, &t[RIGHT_AT..RESHAPE_WIDTH])
+        & (((t[1] == 0) & (t[5] == 1)) | ((t[LEFT_AT] == 0) & (t[RIGHT_AT] == 0)))
 }
 
 fn reshape_ok(t: &[u64]) -> bool
     requires { ⌜ length (now t) ≡ reshapeWidth ⌝ }
     ensures { λ r. ⌜ r ≡ reshapeOk (now (t .entry)) ⌝ }
 {
-    head_ok(t)
-        & seats_ok(t[0], &t[SEATS_AT..LEFT_AT])
-        & ids_ok(MOST_HALF, &t[LEFT_AT..RIGHT_AT])
-        & ids_ok(MOST_HALF, &t[RIGHT_AT..RESHAPE_WIDTH])
-        & (((t[1] == 0) & (t[5] == 1)) | ((t[LEFT_AT] == 0) & (t[RIGHT_AT] == 0)))
+    epochs_ok(t) & flags_ok(t) & seats_ok(t[0], &t[SEATS_AT..LEFT_AT]) & halves_ok(t)
 }
 
 // ---- A table of any kind of rows
@@ -318,6 +336,42 @@ impl RowKind {
             RowKind::Reshapes => false,
         }
     }
+
+    fn start(self) -> usize
+        ensures { λ r. ⌜ r ≡ startOf self ⌝ }
+    {
+        match self {
+            RowKind::Machines => MACHINES_AT,
+            RowKind::Committees => COMMITTEES_AT,
+            RowKind::Boundaries => BOUNDS_AT,
+            RowKind::Rotations => ROTATIONS_AT,
+            RowKind::Reshapes => RESHAPES_AT,
+        }
+    }
+
+    fn end(self) -> usize
+        ensures { λ r. ⌜ r ≡ endOf self ⌝ }
+    {
+        match self {
+            RowKind::Machines => COMMITTEES_AT,
+            RowKind::Committees => BOUNDS_AT,
+            RowKind::Boundaries => ROTATIONS_AT,
+            RowKind::Rotations => RESHAPES_AT,
+            RowKind::Reshapes => BOARD_SIZE,
+        }
+    }
+
+    fn most(self) -> usize
+        ensures { λ r. ⌜ r ≡ mostOf self ⌝ }
+    {
+        match self {
+            RowKind::Machines => MOST_MACHINES,
+            RowKind::Committees => MOST_COMMITTEES,
+            RowKind::Boundaries => MOST_BOUNDS,
+            RowKind::Rotations => MOST_ROTATIONS,
+            RowKind::Reshapes => MOST_RESHAPES,
+        }
+    }
 }
 
 fn row_ok(k: RowKind, t: &[u64]) -> bool
@@ -346,7 +400,7 @@ fn first_ok(k: RowKind, w: usize, n: usize, t: &[u64]) -> bool
 
 fn table_ok(k: RowKind, cap: usize, t: &[u64]) -> bool
     requires { ⌜ 1 ≤ length (now t) ⌝ }
-    ensures { λ r. ⌜ r ≡ sectionOk k cap (now (t .entry)) ⌝ }
+    ensures { λ r. ⌜ r ≡ kindOk k cap (now (t .entry)) ⌝ }
 {
     let w = k.width();
     let mut n = t[0] as usize;
@@ -366,18 +420,33 @@ fn table_ok(k: RowKind, cap: usize, t: &[u64]) -> bool
 
 // ---- The board
 
-fn settings_ok(t: &[u64]) -> bool
+// Epoch, S, D, W, interval and most in flight.
+fn numbers_ok(t: &[u64]) -> bool
     requires { ⌜ length (now t) ≡ machinesAt ⌝ }
-    ensures { λ r. ⌜ r ≡ settingsOk (now (t .entry)) ⌝ }
+    ensures { λ r. ⌜ r ≡ numbersOk (now (t .entry)) ⌝ }
 {
-    (t[0] == SETTINGS_COUNT)
-        & (t[1] <= LAST_EPOCH)
-        & inside(4, 32, t[2])
+    (t[1] <= LAST_EPOCH)
+        & inside(LEAST_SIZE, MOST_SIZE, t[2])
         & (t[3] <= MOST_EPOCHS)
         & (t[4] <= MOST_EPOCHS)
         & inside(1, MOST_EPOCHS, t[5])
         & (t[6] <= MOST_IN_FLIGHT)
-        & all_zero(&t[7..MACHINES_AT])
+}
+
+fn settings_ok(t: &[u64]) -> bool
+    requires { ⌜ length (now t) ≡ machinesAt ⌝ }
+    ensures { λ r. ⌜ r ≡ settingsOk (now (t .entry)) ⌝ }
+{
+    (t[0] == SETTINGS_COUNT) & numbers_ok(t) & all_zero(&t[SETTINGS_END..MACHINES_AT])
+}
+
+fn section_ok(k: RowKind, board: &[u64]) -> bool
+    requires { ⌜ length (now board) ≡ boardSize ⌝ }
+    ensures { λ r. ⌜ r ≡ sectionOk k (now (board .entry)) ⌝ }
+{
+    let a = k.start();
+    let e = k.end();
+    table_ok(k, k.most(), &board[a..e])
 }
 
 // Whether the words, of any length, are those of a well-formed board.
@@ -388,29 +457,9 @@ pub fn well_formed(board: &[u64]) -> bool
         return false;
     }
     settings_ok(&board[0..MACHINES_AT])
-        & table_ok(
-            RowKind::Machines,
-            MOST_MACHINES,
-            &board[MACHINES_AT..COMMITTEES_AT],
-        )
-        & table_ok(
-            RowKind::Committees,
-            MOST_COMMITTEES,
-            &board[COMMITTEES_AT..BOUNDS_AT],
-        )
-        & table_ok(
-            RowKind::Boundaries,
-            MOST_BOUNDS,
-            &board[BOUNDS_AT..ROTATIONS_AT],
-        )
-        & table_ok(
-            RowKind::Rotations,
-            MOST_ROTATIONS,
-            &board[ROTATIONS_AT..RESHAPES_AT],
-        )
-        & table_ok(
-            RowKind::Reshapes,
-            MOST_RESHAPES,
-            &board[RESHAPES_AT..BOARD_SIZE],
-        )
+        & section_ok(RowKind::Machines, board)
+        & section_ok(RowKind::Committees, board)
+        & section_ok(RowKind::Boundaries, board)
+        & section_ok(RowKind::Rotations, board)
+        & section_ok(RowKind::Reshapes, board)
 }

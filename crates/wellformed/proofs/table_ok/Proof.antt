@@ -4,13 +4,13 @@ use native.Mathlib.Omega.{arith}
 use borrow.Author.Needs.{needs}
 use borrow.Author.Tests.{not-true, not-false}
 use lib.ListN.{length, drop}
-use Rattle.wellformed.specs.Check.{rowOk, rises, inPairs, widthOf, rowsOk, sectionOk}
+use Rattle.wellformed.specs.Check.{rowOk, rises, inPairs, widthOf, rowsOk, kindOk}
 use Rattle.wellformed.proofs.Turns.{table-many, table-start, table-end, table-fails, table-room, table-more}
 use Rattle.wellformed.proofs.table_ok.Statement.{statement}
 use Rattle.wellformed.proofs.table_ok.Tie as tie
 
 abbrev Inv-loop : tie.InvT-loop
-Inv-loop k cap t w n₀ a₀ n a = (a ≤ length t) × (sectionOk k cap t ≡ rowsOk (rowOk k) (rises (inPairs k)) (widthOf k) n (drop a t))
+Inv-loop k cap t w n₀ a₀ n a = (a ≤ length t) × (kindOk k cap t ≡ rowsOk (rowOk k) (rises (inPairs k)) (widthOf k) n (drop a t))
 
 abbrev μ-loop : tie.MeasureT-loop
 μ-loop k cap t w n₀ a₀ n a = n

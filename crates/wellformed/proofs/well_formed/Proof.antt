@@ -21,69 +21,24 @@ part-settings-ok-end c = search needs
 settings-ok-requires : tie.Need-settings-ok-requires
 settings-ok-requires c κs = search needs
 
-sub-table-ok : tie.Need-sub-table-ok
-sub-table-ok c = search needs
+section-ok-requires : tie.Need-section-ok-requires
+section-ok-requires c κs = search needs
 
-part-table-ok-start : tie.Need-part-table-ok-start
-part-table-ok-start c = search needs
+section-ok-requires-2 : tie.Need-section-ok-requires-2
+section-ok-requires-2 c κs = search needs
 
-part-table-ok-end : tie.Need-part-table-ok-end
-part-table-ok-end c = search needs
+section-ok-requires-3 : tie.Need-section-ok-requires-3
+section-ok-requires-3 c κs = search needs
 
-table-ok-requires : tie.Need-table-ok-requires
-table-ok-requires c κs = search needs
+section-ok-requires-4 : tie.Need-section-ok-requires-4
+section-ok-requires-4 c κs = search needs
 
-sub-table-ok-2 : tie.Need-sub-table-ok-2
-sub-table-ok-2 c = search needs
-
-part-table-ok-start-2 : tie.Need-part-table-ok-start-2
-part-table-ok-start-2 c = search needs
-
-part-table-ok-end-2 : tie.Need-part-table-ok-end-2
-part-table-ok-end-2 c = search needs
-
-table-ok-requires-2 : tie.Need-table-ok-requires-2
-table-ok-requires-2 c κs = search needs
-
-sub-table-ok-3 : tie.Need-sub-table-ok-3
-sub-table-ok-3 c = search needs
-
-part-table-ok-start-3 : tie.Need-part-table-ok-start-3
-part-table-ok-start-3 c = search needs
-
-part-table-ok-end-3 : tie.Need-part-table-ok-end-3
-part-table-ok-end-3 c = search needs
-
-table-ok-requires-3 : tie.Need-table-ok-requires-3
-table-ok-requires-3 c κs = search needs
-
-sub-table-ok-4 : tie.Need-sub-table-ok-4
-sub-table-ok-4 c = search needs
-
-part-table-ok-start-4 : tie.Need-part-table-ok-start-4
-part-table-ok-start-4 c = search needs
-
-part-table-ok-end-4 : tie.Need-part-table-ok-end-4
-part-table-ok-end-4 c = search needs
-
-table-ok-requires-4 : tie.Need-table-ok-requires-4
-table-ok-requires-4 c κs = search needs
-
-sub-table-ok-5 : tie.Need-sub-table-ok-5
-sub-table-ok-5 c = search needs
-
-part-table-ok-start-5 : tie.Need-part-table-ok-start-5
-part-table-ok-start-5 c = search needs
-
-part-table-ok-end-5 : tie.Need-part-table-ok-end-5
-part-table-ok-end-5 c = search needs
-
-table-ok-requires-5 : tie.Need-table-ok-requires-5
-table-ok-requires-5 c κs = search needs
+section-ok-requires-5 : tie.Need-section-ok-requires-5
+section-ok-requires-5 c κs = search needs
 
 returns-2 : tie.Need-returns-2
-returns-2 c = tells (c .before .before .before .before .before .before .before .before .before .before .before .before .before .before .args .board .now) _ (words-all (c .before .before .before .before .before .before .before .before .before .before .before .before .before .before .args .board .now) (λ i. omega (arith, c .before .before .before .before .before .before .before .before .before .before .before .before .before .shared-slice-known .given i)))
-    (words-are _ _ _ _ _ _ _ (search needs) (c .before .before .before .before .before .before .before .before .before .before .settings-ok .ensures) (c .before .before .before .before .before .before .before .before .table-ok .ensures) (c .before .before .before .before .before .before .table-ok2 .ensures) (c .before .before .before .before .table-ok3 .ensures) (c .before .before .table-ok4 .ensures) (c .table-ok5 .ensures))
+returns-2 c = tells (c .before .before .before .before .before .before .before .before .before .args .board .now) _ (words-all (c .before .before .before .before .before .before .before .before .before .args .board .now) (λ i. omega (arith, c .before .before .before .before .before .before .before .before .shared-slice-known .given i)))
+    (words-are _ _ _ _ _ _ _ (search needs) (c .before .before .before .before .before .settings-ok .ensures) (c .before .before .before .before .section-ok .ensures) (c .before .before .before .section-ok2 .ensures) (c .before .before .section-ok3 .ensures) (c .before .section-ok4 .ensures) (c .section-ok5 .ensures))
 
 pub well-formed-spec : {M : Type 1} → statement M
 well-formed-spec =
@@ -94,24 +49,9 @@ well-formed-spec =
     part-settings-ok-start
     part-settings-ok-end
     settings-ok-requires
-    sub-table-ok
-    part-table-ok-start
-    part-table-ok-end
-    table-ok-requires
-    sub-table-ok-2
-    part-table-ok-start-2
-    part-table-ok-end-2
-    table-ok-requires-2
-    sub-table-ok-3
-    part-table-ok-start-3
-    part-table-ok-end-3
-    table-ok-requires-3
-    sub-table-ok-4
-    part-table-ok-start-4
-    part-table-ok-end-4
-    table-ok-requires-4
-    sub-table-ok-5
-    part-table-ok-start-5
-    part-table-ok-end-5
-    table-ok-requires-5
+    section-ok-requires
+    section-ok-requires-2
+    section-ok-requires-3
+    section-ok-requires-4
+    section-ok-requires-5
     returns-2)
