@@ -9,10 +9,10 @@ use lib.Dec.{eqb, leb}
 use lib.ListN.{length, take, drop, length-drop}
 use lib.Seq.{drop-drop, length-take-le}
 use Rattle.rules.specs.Lists.{distinct}
-use Rattle.board.specs.Layout.{machinesAt, boardSize}
-use Rattle.wellformed.specs.declared.RowKind.{RowKind}
+use Rattle.rules.specs.Board.{mostMachines, mostCommittees, mostBounds, mostRotations, mostReshapes}
+use Rattle.board.specs.Layout.{machinesAt, committeesAt, boundsAt, rotationsAt, reshapesAt, boardSize}
 use Rattle.wellformed.specs.declared.RowKind.the-variants.{Machines, Committees, Boundaries, Rotations, Reshapes}
-use Rattle.wellformed.specs.Check.{at, between, allPass, anyPass, allZero, idsOk, firstOk, rowsOk, tableOk, startOf, endOf, mostOf, kindOk, sectionOk, settingsOk, wellFormedWords}
+use Rattle.wellformed.specs.Check.{at, between, allPass, anyPass, allZero, idsOk, firstOk, rowsOk, tableOk, kindOk, settingsOk, wellFormedWords}
 use Rattle.wellformed.proofs.Tests.{left-true}
 use Rattle.wellformed.proofs.Loops.{rest-is}
 
@@ -96,32 +96,19 @@ module _ (ok : List ℕ → Bool) (lt : List ℕ → List ℕ → Bool) (w : ℕ
 
 -- ---- the board
 
+-- a section has its count
+pub section-there : (a e : ℕ) (t : List ℕ) → a < e → e ≤ boardSize → length t ≡ boardSize → 1 ≤ length (between a e t)
+section-there a e t h m l = omega (arith, length-take-le (e - a) (drop a t) (omega (arith, length-drop a t)))
+
 pub words-other : (t : List ℕ) → (length t ≡ boardSize → ⊥) → false ≡ wellFormedWords t
 unfolding wellFormedWords allPass
 words-other t h = let e : eqb (length t) boardSize ≡ false = ne-eqb (length t) boardSize h in rw e
 
-pub words-are : (t : List ℕ) (s m c b o r : Bool) → length t ≡ boardSize → s ≡ settingsOk (between 0 machinesAt t) → m ≡ sectionOk Machines t → c ≡ sectionOk Committees t
-    → b ≡ sectionOk Boundaries t → o ≡ sectionOk Rotations t → r ≡ sectionOk Reshapes t → (s && m && c && b && o && r) ≡ wellFormedWords t
+pub words-are : (t : List ℕ) (s m c b o r : Bool) → length t ≡ boardSize → s ≡ settingsOk (between 0 machinesAt t) → m ≡ kindOk Machines mostMachines (between machinesAt committeesAt t)
+    → c ≡ kindOk Committees mostCommittees (between committeesAt boundsAt t) → b ≡ kindOk Boundaries mostBounds (between boundsAt rotationsAt t)
+    → o ≡ kindOk Rotations mostRotations (between rotationsAt reshapesAt t) → r ≡ kindOk Reshapes mostReshapes (between reshapesAt boardSize t)
+    → (s && m && c && b && o && r) ≡ wellFormedWords t
 unfolding wellFormedWords allPass
 words-are t s m c b o r l hs hm hc hb ho hr =
     let e : eqb (length t) boardSize ≡ true = eq-eqb (length t) boardSize l in
     rw (e, hs, hm, hc, hb, ho, hr)
-
--- a section is lent, by the code's words for its start and its end
-module _ (k : RowKind) (a e : ℕ) (p : a ≡ startOf k) (q : e ≡ endOf k) where
-  pub section-fits : (a < e) × (e ≤ boardSize)
-  section-fits = rw (p, q) (go k)
-    where
-      go : (k : RowKind) → (startOf k < endOf k) × (endOf k ≤ boardSize)
-      go Machines = (omega arith, omega arith)
-      go Committees = (omega arith, omega arith)
-      go Boundaries = (omega arith, omega arith)
-      go Rotations = (omega arith, omega arith)
-      go Reshapes = (omega arith, omega arith)
-
-  -- it has its count
-  pub section-there : (t : List ℕ) → length t ≡ boardSize → 1 ≤ length (take (e - a) (drop a t))
-  section-there t l = let f = section-fits in omega (arith, length-take-le (e - a) (drop a t) (omega (arith, length-drop a t)))
-
-  pub section-is : (t : List ℕ) (m : ℕ) (r : Bool) → m ≡ mostOf k → r ≡ kindOk k m (take (e - a) (drop a t)) → r ≡ sectionOk k t
-  section-is t m r h g = g ∙ rw (p, q, h)

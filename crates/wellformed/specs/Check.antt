@@ -1,5 +1,6 @@
 -- The check as a computed test over any words. Nothing here is to be believed: proofs/Decided.antt has it say yes exactly of a well-formed board's words.
 use Prim.Native.Nat.{ℕ, zero, suc, _-_}
+use mathlib.Core.Path.{_≡_}
 use mathlib.Core.List.{List, [], _∷_}
 use mathlib.Core.Bool.{Bool, true, false, _&&_, _||_}
 use lib.Dec.{leb, ltb, eqb}
@@ -152,34 +153,14 @@ widthOf Boundaries = boundaryWidth
 widthOf Rotations = rotationWidth
 widthOf Reshapes = reshapeWidth
 
+-- w and pairs are those of a kind of rows
+pub record Shape (k : RowKind) (w : ℕ) (pairs : Bool) : Type 0 where
+  pub wide : w ≡ widthOf k
+  pub paired : pairs ≡ inPairs k
+
 -- a table of any kind of rows
 abbrev pub kindOk : RowKind → ℕ → List ℕ → Bool
 kindOk k = tableOk (rowOk k) (rises (inPairs k)) (widthOf k)
-
--- where a kind's section starts and ends, and how many rows it has room for
-abbrev pub startOf : RowKind → ℕ
-startOf Machines = machinesAt
-startOf Committees = committeesAt
-startOf Boundaries = boundsAt
-startOf Rotations = rotationsAt
-startOf Reshapes = reshapesAt
-
-abbrev pub endOf : RowKind → ℕ
-endOf Machines = committeesAt
-endOf Committees = boundsAt
-endOf Boundaries = rotationsAt
-endOf Rotations = reshapesAt
-endOf Reshapes = boardSize
-
-abbrev pub mostOf : RowKind → ℕ
-mostOf Machines = mostMachines
-mostOf Committees = mostCommittees
-mostOf Boundaries = mostBounds
-mostOf Rotations = mostRotations
-mostOf Reshapes = mostReshapes
-
-abbrev pub sectionOk : RowKind → List ℕ → Bool
-sectionOk k t = kindOk k (mostOf k) (between (startOf k) (endOf k) t)
 
 -- ---- the board
 
@@ -203,9 +184,9 @@ wellFormedWords t =
     allPass
     (eqb (length t) boardSize
     ∷ settingsOk (between 0 machinesAt t)
-    ∷ sectionOk Machines t
-    ∷ sectionOk Committees t
-    ∷ sectionOk Boundaries t
-    ∷ sectionOk Rotations t
-    ∷ sectionOk Reshapes t
+    ∷ kindOk Machines mostMachines (between machinesAt committeesAt t)
+    ∷ kindOk Committees mostCommittees (between committeesAt boundsAt t)
+    ∷ kindOk Boundaries mostBounds (between boundsAt rotationsAt t)
+    ∷ kindOk Rotations mostRotations (between rotationsAt reshapesAt t)
+    ∷ kindOk Reshapes mostReshapes (between reshapesAt boardSize t)
     ∷ [])

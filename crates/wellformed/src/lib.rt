@@ -6,9 +6,9 @@ ghost use Prim.Native.Nat.{_+_, _≤_};
 ghost use lib.ListN.{length};
 ghost use Rattle.rules.specs.Lists.{has, distinct};
 ghost use Rattle.rules.specs.WellFormed.{within};
-ghost use Rattle.board.specs.Layout.{machineWidth, committeeWidth, boundaryWidth, rotationWidth, seatWidth, reshapeWidth, machinesAt, boardSize};
+ghost use Rattle.board.specs.Layout.{machineWidth, committeeWidth, boundaryWidth, rotationWidth, seatWidth, reshapeWidth, machinesAt};
 ghost use Rattle.wellformed.specs.Tells.{Tells};
-ghost use Rattle.wellformed.specs.Check.{at, allZero, idsOk, rises, firstOk, caseOk, machineOk, committeeOk, optionOk, boundaryOk, rotationOk, seatOk, seatsOk, epochsOk, flagsOk, halvesOk, reshapeOk, rowOk, inPairs, widthOf, startOf, endOf, mostOf, kindOk, sectionOk, numbersOk, settingsOk};
+ghost use Rattle.wellformed.specs.Check.{at, allZero, idsOk, rises, firstOk, caseOk, machineOk, committeeOk, optionOk, boundaryOk, rotationOk, seatOk, seatsOk, epochsOk, flagsOk, halvesOk, reshapeOk, rowOk, inPairs, widthOf, Shape, kindOk, numbersOk, settingsOk};
 
 // ---- The limits and ranges of rules/specs/Board.antt
 
@@ -311,69 +311,6 @@ pub enum RowKind {
     Reshapes,
 }
 
-impl RowKind {
-    fn width(self) -> usize
-        ensures { λ r. ⌜ r ≡ widthOf self ⌝ }
-    {
-        match self {
-            RowKind::Machines => MACHINE_WIDTH,
-            RowKind::Committees => COMMITTEE_WIDTH,
-            RowKind::Boundaries => BOUNDARY_WIDTH,
-            RowKind::Rotations => ROTATION_WIDTH,
-            RowKind::Reshapes => RESHAPE_WIDTH,
-        }
-    }
-
-    // Rotations are told apart by shard, then victim.
-    fn in_pairs(self) -> bool
-        ensures { λ r. ⌜ r ≡ inPairs self ⌝ }
-    {
-        match self {
-            RowKind::Machines => false,
-            RowKind::Committees => false,
-            RowKind::Boundaries => false,
-            RowKind::Rotations => true,
-            RowKind::Reshapes => false,
-        }
-    }
-
-    fn start(self) -> usize
-        ensures { λ r. ⌜ r ≡ startOf self ⌝ }
-    {
-        match self {
-            RowKind::Machines => MACHINES_AT,
-            RowKind::Committees => COMMITTEES_AT,
-            RowKind::Boundaries => BOUNDS_AT,
-            RowKind::Rotations => ROTATIONS_AT,
-            RowKind::Reshapes => RESHAPES_AT,
-        }
-    }
-
-    fn end(self) -> usize
-        ensures { λ r. ⌜ r ≡ endOf self ⌝ }
-    {
-        match self {
-            RowKind::Machines => COMMITTEES_AT,
-            RowKind::Committees => BOUNDS_AT,
-            RowKind::Boundaries => ROTATIONS_AT,
-            RowKind::Rotations => RESHAPES_AT,
-            RowKind::Reshapes => BOARD_SIZE,
-        }
-    }
-
-    fn most(self) -> usize
-        ensures { λ r. ⌜ r ≡ mostOf self ⌝ }
-    {
-        match self {
-            RowKind::Machines => MOST_MACHINES,
-            RowKind::Committees => MOST_COMMITTEES,
-            RowKind::Boundaries => MOST_BOUNDS,
-            RowKind::Rotations => MOST_ROTATIONS,
-            RowKind::Reshapes => MOST_RESHAPES,
-        }
-    }
-}
-
 fn row_ok(k: RowKind, t: &[u64]) -> bool
     requires { ⌜ length (now t) ≡ widthOf k ⌝ }
     ensures { λ r. ⌜ r ≡ rowOk k (now (t .entry)) ⌝ }
@@ -388,28 +325,28 @@ fn row_ok(k: RowKind, t: &[u64]) -> bool
 }
 
 // The first of n rows: it is there, it is good, and it is below the next.
-fn first_ok(k: RowKind, w: usize, n: usize, t: &[u64]) -> bool
-    requires { ⌜ w ≡ widthOf k ⌝ }
+fn first_ok(k: RowKind, w: usize, pairs: bool, n: usize, t: &[u64]) -> bool
+    requires { ⌜ Shape k w pairs ⌝ }
     ensures { λ r. ⌜ r ≡ firstOk (rowOk k) (rises (inPairs k)) (widthOf k) n (now (t .entry)) ⌝ }
 {
     if t.len() < w {
         return false;
     }
-    row_ok(k, &t[..w]) & ((n == 1) | rises(k.in_pairs(), t, &t[w..]))
+    row_ok(k, &t[..w]) & ((n == 1) | rises(pairs, t, &t[w..]))
 }
 
-fn table_ok(k: RowKind, cap: usize, t: &[u64]) -> bool
-    requires { ⌜ 1 ≤ length (now t) ⌝ }
+// A count, that many rows of w words in order, and zeros after them.
+fn table_ok(k: RowKind, w: usize, pairs: bool, cap: usize, t: &[u64]) -> bool
+    requires { ⌜ (1 ≤ length (now t)) × Shape k w pairs ⌝ }
     ensures { λ r. ⌜ r ≡ kindOk k cap (now (t .entry)) ⌝ }
 {
-    let w = k.width();
     let mut n = t[0] as usize;
     if cap < n {
         return false;
     }
     let mut a: usize = 1;
     while 0 < n {
-        if !first_ok(k, w, n, &t[a..]) {
+        if !first_ok(k, w, pairs, n, &t[a..]) {
             return false;
         }
         a += w;
@@ -440,15 +377,6 @@ fn settings_ok(t: &[u64]) -> bool
     (t[0] == SETTINGS_COUNT) & numbers_ok(t) & all_zero(&t[SETTINGS_END..MACHINES_AT])
 }
 
-fn section_ok(k: RowKind, board: &[u64]) -> bool
-    requires { ⌜ length (now board) ≡ boardSize ⌝ }
-    ensures { λ r. ⌜ r ≡ sectionOk k (now (board .entry)) ⌝ }
-{
-    let a = k.start();
-    let e = k.end();
-    table_ok(k, k.most(), &board[a..e])
-}
-
 // Whether the words, of any length, are those of a well-formed board.
 pub fn well_formed(board: &[u64]) -> bool
     ensures { λ r. ⌜ Tells (now (board .entry)) r ⌝ }
@@ -456,10 +384,21 @@ pub fn well_formed(board: &[u64]) -> bool
     if board.len() != BOARD_SIZE {
         return false;
     }
+    let m = &board[MACHINES_AT..COMMITTEES_AT];
+    let c = &board[COMMITTEES_AT..BOUNDS_AT];
+    let b = &board[BOUNDS_AT..ROTATIONS_AT];
+    let o = &board[ROTATIONS_AT..RESHAPES_AT];
+    let r = &board[RESHAPES_AT..BOARD_SIZE];
     settings_ok(&board[0..MACHINES_AT])
-        & section_ok(RowKind::Machines, board)
-        & section_ok(RowKind::Committees, board)
-        & section_ok(RowKind::Boundaries, board)
-        & section_ok(RowKind::Rotations, board)
-        & section_ok(RowKind::Reshapes, board)
+        & table_ok(RowKind::Machines, MACHINE_WIDTH, false, MOST_MACHINES, m)
+        & table_ok(
+            RowKind::Committees,
+            COMMITTEE_WIDTH,
+            false,
+            MOST_COMMITTEES,
+            c,
+        )
+        & table_ok(RowKind::Boundaries, BOUNDARY_WIDTH, false, MOST_BOUNDS, b)
+        & table_ok(RowKind::Rotations, ROTATION_WIDTH, true, MOST_ROTATIONS, o)
+        & table_ok(RowKind::Reshapes, RESHAPE_WIDTH, false, MOST_RESHAPES, r)
 }

@@ -6,16 +6,13 @@ use Rattle.wellformed.proofs.first_ok.Statement.{statement}
 use Rattle.wellformed.proofs.first_ok.Tie as tie
 
 returns : tie.Need-returns
-returns c = first-short _ _ _ _ (c .before .before .pre) _ (c .before .before .args .t .now) (c .if1 .taken)
+returns c = first-short _ _ _ _ (c .before .before .pre .wide) _ (c .before .before .args .t .now) (c .if1 .taken)
 
 slice-aggregate-row-ok : tie.Need-slice-aggregate-row-ok
 slice-aggregate-row-ok c = sym (length-take-le _ _ (c .before .if1 .left))
 
 row-ok-requires : tie.Need-row-ok-requires
-row-ok-requires c κs = length-take-le _ _ (c .before .if1 .left) ∙ c .before .before .before .pre
-
-in-pairs-requires : tie.Need-in-pairs-requires
-in-pairs-requires c κs = search needs
+row-ok-requires c κs = length-take-le _ _ (c .before .if1 .left) ∙ c .before .before .before .pre .wide
 
 mul-rises : tie.Need-mul-rises
 mul-rises c = search needs
@@ -33,7 +30,7 @@ rises-requires : tie.Need-rises-requires
 rises-requires c κs = search needs
 
 returns-2 : tie.Need-returns-2
-returns-2 c = first-is _ _ _ _ (c .before .before .before .before .before .before .before .pre) _ (c .before .before .before .before .before .before .before .args .t .now) _ _ (c .before .before .before .before .before .if1 .left) (c .before .before .before .row-ok .ensures) (cc)
+returns-2 c = first-is _ _ _ _ (c .before .before .before .before .before .before .pre .wide) _ (c .before .before .before .before .before .before .args .t .now) _ _ (c .before .before .before .before .if1 .left) (c .before .before .row-ok .ensures) (cc)
 
 pub first-ok-spec : {M : Type 1} → statement M
 first-ok-spec =
@@ -42,7 +39,6 @@ first-ok-spec =
     returns
     slice-aggregate-row-ok
     row-ok-requires
-    in-pairs-requires
     mul-rises
     sub-rises
     part-rises-start
