@@ -2,7 +2,7 @@
 use Prim.Native.Nat.{ℕ, _+_, _-_, _*_}
 use mathlib.Core.Path.{_≡_, refl, ap, sym, _∙_}
 use mathlib.Core.List.{List, _++_}
-use mathlib.Core.Bool.{Bool, true}
+use mathlib.Core.Bool.{Bool, true, false, or-false}
 use native.Mathlib.Omega.{arith}
 use borrow.Author.Tests.{eqb-true, eq-eqb}
 use lib.ListN.{length, take, drop}
@@ -17,7 +17,7 @@ use Rattle.board.proofs.Widths.{board-wide}
 use Rattle.board.proofs.One.{well-formed-fits}
 use Rattle.wellformed.specs.declared.RowKind.the-variants.{Machines, Committees, Boundaries, Rotations, Reshapes}
 use Rattle.wellformed.specs.Tells.{Tells}
-use Rattle.wellformed.specs.Check.{between, allPass, anyPass, keyRises, pairRises, machineOk, committeeOk, boundaryOk, rotationOk, reshapeOk, sectionOk, settingsOk, wellFormedWords}
+use Rattle.wellformed.specs.Check.{between, allPass, anyPass, rises, machineOk, committeeOk, boundaryOk, rotationOk, reshapeOk, kindOk, settingsOk, wellFormedWords}
 use Rattle.wellformed.proofs.Tests.{and-is, or-is, pass-parts, pass-joins}
 use Rattle.wellformed.proofs.Decides.{Words, Decides, table-decides}
 use Rattle.wellformed.proofs.Rows.{between-length, between-words, to-end, machine-decides, committee-decides, boundary-decides, rotation-decides, settings-decides}
@@ -25,26 +25,26 @@ use Rattle.wellformed.proofs.Reshapes.{cut, join, reshape-decides}
 
 -- ---- the tables, each by the one law
 
-machines-decide : Decides machineTable (goodTable mostMachines goodMachine) (1 + mostMachines * machineWidth) (sectionOk Machines mostMachines)
-unfolding machineWords
-machines-decide = table-decides machineWords goodMachine machineWidth machineOk machine-decides keyBefore keyRises (λ x y a b. refl) mostMachines
+machines-decide : Decides machineTable (goodTable mostMachines goodMachine) (1 + mostMachines * machineWidth) (kindOk Machines mostMachines)
+unfolding machineWords allPass anyPass
+machines-decide = table-decides machineWords goodMachine machineWidth machineOk machine-decides keyBefore (rises false) (λ x y a b. or-false _) mostMachines
 
-committees-decide : Decides committeeTable (goodTable mostCommittees goodCommittee) (1 + mostCommittees * committeeWidth) (sectionOk Committees mostCommittees)
-unfolding committeeRow
-committees-decide = table-decides committeeRow goodCommittee committeeWidth committeeOk committee-decides keyBefore keyRises (λ x y a b. refl) mostCommittees
+committees-decide : Decides committeeTable (goodTable mostCommittees goodCommittee) (1 + mostCommittees * committeeWidth) (kindOk Committees mostCommittees)
+unfolding committeeRow allPass anyPass
+committees-decide = table-decides committeeRow goodCommittee committeeWidth committeeOk committee-decides keyBefore (rises false) (λ x y a b. or-false _) mostCommittees
 
-bounds-decide : Decides boundaryTable (goodTable mostBounds goodBoundary) (1 + mostBounds * boundaryWidth) (sectionOk Boundaries mostBounds)
-unfolding boundaryWords
-bounds-decide = table-decides boundaryWords goodBoundary boundaryWidth boundaryOk boundary-decides keyBefore keyRises (λ x y a b. refl) mostBounds
+bounds-decide : Decides boundaryTable (goodTable mostBounds goodBoundary) (1 + mostBounds * boundaryWidth) (kindOk Boundaries mostBounds)
+unfolding boundaryWords allPass anyPass
+bounds-decide = table-decides boundaryWords goodBoundary boundaryWidth boundaryOk boundary-decides keyBefore (rises false) (λ x y a b. or-false _) mostBounds
 
-rotations-decide : Decides rotationTable (goodList mostRotations goodRotation rotationBefore) (1 + mostRotations * rotationWidth) (sectionOk Rotations mostRotations)
+rotations-decide : Decides rotationTable (goodList mostRotations goodRotation rotationBefore) (1 + mostRotations * rotationWidth) (kindOk Rotations mostRotations)
 unfolding rotationWords rotationBefore allPass anyPass
 rotations-decide =
-    table-decides rotationWords goodRotation rotationWidth rotationOk rotation-decides rotationBefore pairRises (λ x y a b. sym (rw and-is (or-is _ _))) mostRotations
+    table-decides rotationWords goodRotation rotationWidth rotationOk rotation-decides rotationBefore (rises true) (λ x y a b. sym (rw and-is (or-is _ _))) mostRotations
 
-reshapes-decide : Decides reshapeTable (goodTable mostReshapes goodReshape) (1 + mostReshapes * reshapeWidth) (sectionOk Reshapes mostReshapes)
-unfolding reshapeRow reshapeHead reshapeWords
-reshapes-decide = table-decides reshapeRow goodReshape reshapeWidth reshapeOk reshape-decides keyBefore keyRises (λ x y a b. refl) mostReshapes
+reshapes-decide : Decides reshapeTable (goodTable mostReshapes goodReshape) (1 + mostReshapes * reshapeWidth) (kindOk Reshapes mostReshapes)
+unfolding reshapeRow reshapeHead reshapeWords allPass anyPass
+reshapes-decide = table-decides reshapeRow goodReshape reshapeWidth reshapeOk reshape-decides keyBefore (rises false) (λ x y a b. or-false _) mostReshapes
 
 -- ---- the board
 
@@ -108,15 +108,15 @@ board-complete b g =
       (
         ap settingsOk (part 0 machinesAt t S (M ++ (C ++ (B ++ (O ++ R)))) refl ls) ∙ settings-decides .complete (b .settings) (p .0),
         (
-          ap (sectionOk Machines mostMachines) (part machinesAt committeesAt t M (C ++ (B ++ (O ++ R))) dm lm) ∙ machines-decide .complete (b .machines) (p .1 .0),
+          ap (kindOk Machines mostMachines) (part machinesAt committeesAt t M (C ++ (B ++ (O ++ R))) dm lm) ∙ machines-decide .complete (b .machines) (p .1 .0),
           (
-            ap (sectionOk Committees mostCommittees) (part committeesAt boundsAt t C (B ++ (O ++ R)) dc lc) ∙ committees-decide .complete (b .committees) (p .1 .1 .0),
+            ap (kindOk Committees mostCommittees) (part committeesAt boundsAt t C (B ++ (O ++ R)) dc lc) ∙ committees-decide .complete (b .committees) (p .1 .1 .0),
             (
-              ap (sectionOk Boundaries mostBounds) (part boundsAt rotationsAt t B (O ++ R) db lb) ∙ bounds-decide .complete (b .bounds) (p .1 .1 .1 .0),
+              ap (kindOk Boundaries mostBounds) (part boundsAt rotationsAt t B (O ++ R) db lb) ∙ bounds-decide .complete (b .bounds) (p .1 .1 .1 .0),
               (
-                ap (sectionOk Rotations mostRotations) (part rotationsAt reshapesAt t O R do' lo) ∙ rotations-decide .complete (b .rotations) (p .1 .1 .1 .1 .0),
+                ap (kindOk Rotations mostRotations) (part rotationsAt reshapesAt t O R do' lo) ∙ rotations-decide .complete (b .rotations) (p .1 .1 .1 .1 .0),
                 (
-                  ap (sectionOk Reshapes mostReshapes) (to-end reshapesAt boardSize t (omega arith) ∙ dr) ∙ reshapes-decide .complete (b .reshapes) (p .1 .1 .1 .1 .1 .0),
+                  ap (kindOk Reshapes mostReshapes) (to-end reshapesAt boardSize t (omega arith) ∙ dr) ∙ reshapes-decide .complete (b .reshapes) (p .1 .1 .1 .1 .1 .0),
                   tt,
                 ),
               ),

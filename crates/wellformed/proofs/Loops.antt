@@ -1,5 +1,5 @@
 -- A test of every element of a list, by a loop: what holds at each turn.
-use Prim.Native.Nat.{ℕ, _+_, _-_, _≤_, _<_}
+use Prim.Native.Nat.{ℕ, zero, suc, _+_, _-_, _≤_, _<_}
 use mathlib.Core.Path.{_≡_, refl, ap, sym, _∙_}
 use mathlib.Core.List.{List, [], _∷_}
 use mathlib.Core.Bool.{Bool, true, false, not, _&&_, and-assoc, and-true}
@@ -86,11 +86,7 @@ pub on-rest : (F : List ℕ → Bool) (t : List ℕ) (a : ℕ) (r v : Bool) → 
 on-rest F t a r v e q = ap F (sym (rest-is t a)) ∙ sym e ∙ q
 
 -- what is read past the end
-pub none-at : (t : List ℕ) → length t ≤ 0 → 0 ≡ getD t 0 0
-none-at [] h = refl
-none-at (x ∷ t) h = absurd (omega arith)
-
-pub none-at-1 : (t : List ℕ) → length t ≤ 1 → 0 ≡ getD t 1 0
-none-at-1 [] h = refl
-none-at-1 (x ∷ []) h = refl
-none-at-1 (x ∷ y ∷ t) h = absurd (omega arith)
+pub none-at : (t : List ℕ) (i : ℕ) → length t ≤ i → 0 ≡ getD t i 0
+none-at [] i h = refl
+none-at (x ∷ t) zero h = absurd (omega arith)
+none-at (x ∷ t) (suc i) h = none-at t i (omega arith)

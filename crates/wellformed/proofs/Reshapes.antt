@@ -4,7 +4,7 @@ use mathlib.Core.Path.{_≡_, refl, ap, sym, _∙_}
 use mathlib.Core.List.{List, [], _∷_, _++_}
 use mathlib.Core.Logic.{_⊎_, inl, inr}
 use mathlib.Core.Option.{Option, none, some}
-use mathlib.Core.Bool.{Bool, true, false, cond, false≢true}
+use mathlib.Core.Bool.{Bool, true, false, cond, false≢true, or-false}
 use native.Mathlib.Omega.{arith}
 use borrow.Author.Tests.{leb-true, eqb-true, eqb-false, eq-eqb}
 use lib.Dec.{eqb, leb}
@@ -21,7 +21,7 @@ use Rattle.rules.proofs.Tests.{and-parts, and-joins, or-cases, or-left, or-righ
 use Rattle.tables.specs.Rows.{idTable}
 use Rattle.board.specs.Layout.{seatWidth, seatsAt, leftAt, rightAt, reshapeWidth, seatTable, reshapeHead, reshapeRow}
 use Rattle.board.proofs.Widths.{seat-wide, reshape-wide}
-use Rattle.wellformed.specs.Check.{at, between, allPass, keyRises, seatOk, seatsOk, halvesOk, headOk, idsOk, reshapeOk}
+use Rattle.wellformed.specs.Check.{at, between, allPass, anyPass, rises, seatOk, seatsOk, epochsOk, flagsOk, scheduledOk, halvesOk, idsOk, reshapeOk}
 use Rattle.wellformed.proofs.Tests.{Some, pass-parts, pass-joins, any-cases, any-joins}
 use Rattle.wellformed.proofs.Decides.{Words, word-at, Held, Decides, ids-decides, table-decides}
 use Rattle.wellformed.proofs.Rows.{gets, gets-is, gets-all, between-length, between-words, to-end, bit-back, bit-small, option-sound, option-complete}
@@ -57,9 +57,9 @@ unfolding seatOk seatWords goodSeat
 seat-complete g e h = pass-joins _ (eq-eqb _ _ (child-complete (e .val .child) g (and-parts _ _ h .1)), (bit-small (e .val .ready), tt))
 
 seats-decide : (g : ℕ) → Decides seatTable (goodTable mostSeats (goodSeat g)) (1 + mostSeats * seatWidth) (seatsOk g)
-unfolding seatWords
+unfolding seatWords allPass anyPass
 seats-decide g =
-    table-decides seatWords (goodSeat g) seatWidth (seatOk g) (record { wide = seat-wide; sound = seat-sound g; complete = seat-complete g }) keyBefore keyRises (λ x y a b. refl) mostSeats
+    table-decides seatWords (goodSeat g) seatWidth (seatOk g) (record { wide = seat-wide; sound = seat-sound g; complete = seat-complete g }) keyBefore (rises false) (λ x y a b. or-false _) mostSeats
 
 -- ---- the kind, quiet and halves
 
@@ -115,8 +115,8 @@ scheduled-complete merge o h = absurd (false≢true h)
 abbrev GoodHalves : Kind → Option Epoch → List Id → List Id → Type 0
 GoodHalves k o l r = (mayHaveHalves k o or (isEmpty l and isEmpty r)) ≡ true
 
-halves-sound : (k f m n : ℕ) (o : Option Epoch) (l r : List Id) → flagOf o ≡ f → m ≡ length l → n ≡ length r → halvesOk k f m n ≡ true → GoodHalves (kindOf k) o l r
-unfolding halvesOk
+halves-sound : (k f m n : ℕ) (o : Option Epoch) (l r : List Id) → flagOf o ≡ f → m ≡ length l → n ≡ length r → scheduledOk k f m n ≡ true → GoodHalves (kindOf k) o l r
+unfolding scheduledOk
 halves-sound k f m n o l r e p q h = go (any-cases _ h)
   where
     go : Some (allPass (eqb k 0 ∷ eqb f 1 ∷ []) ∷ allPass (eqb m 0 ∷ eqb n 0 ∷ []) ∷ []) → GoodHalves (kindOf k) o l r
@@ -126,11 +126,11 @@ halves-sound k f m n o l r e p q h = go (any-cases _ h)
         or-right _ _ (and-joins _ _ (empty-is l (sym p ∙ eqb-true m 0 (y .0))) (empty-is r (sym q ∙ eqb-true n 0 (y .1 .0))))
     go (inr (inr u)) = absurd u
 
-halves-complete : (k : Kind) (o : Option Epoch) (l r : List Id) (m n : ℕ) → m ≡ length l → n ≡ length r → GoodHalves k o l r → halvesOk (kindWord k) (flagOf o) m n ≡ true
-unfolding halvesOk
+halves-complete : (k : Kind) (o : Option Epoch) (l r : List Id) (m n : ℕ) → m ≡ length l → n ≡ length r → GoodHalves k o l r → scheduledOk (kindWord k) (flagOf o) m n ≡ true
+unfolding scheduledOk
 halves-complete k o l r m n p q h = go (or-cases _ _ h)
   where
-    go : (mayHaveHalves k o ≡ true) ⊎ ((isEmpty l and isEmpty r) ≡ true) → halvesOk (kindWord k) (flagOf o) m n ≡ true
+    go : (mayHaveHalves k o ≡ true) ⊎ ((isEmpty l and isEmpty r) ≡ true) → scheduledOk (kindWord k) (flagOf o) m n ≡ true
     go (inl u) = let y = scheduled-complete k o u in any-joins _ (inl (pass-joins _ (eq-eqb _ _ (y .0), (eq-eqb _ _ (y .1), tt))))
     go (inr u) =
         let y = and-parts _ _ u in
@@ -154,19 +154,21 @@ first-of a e n t u h p =
     ap (at t) (sym s) ∙ sym (getD-take (e - a) (drop a t) 0 0 h ∙ getD-drop a t 0 0) ∙ ap (λ (v : List ℕ). at v 0) p
 
 reshape-sound : (t : List ℕ) → Words t → length t ≡ reshapeWidth → reshapeOk t ≡ true → Held reshapeRow goodReshape t
-unfolding reshapeOk headOk reshapeRow reshapeHead reshapeWords goodReshape
+unfolding reshapeOk epochsOk flagsOk halvesOk reshapeRow reshapeHead reshapeWords goodReshape
 reshape-sound t ws l h =
     let z = pass-parts _ h in
     let y = pass-parts _ (z .0) in
-    let kind : at t 1 ≤ 1 = leb-true _ _ (y .1 .0) in
-    let d = option-sound (at t 3) (at t 4) (y .1 .1 .1 .0) in
-    let e = option-sound (at t 5) (at t 6) (y .1 .1 .1 .1 .0) in
-    let ql : at t 7 ≤ 1 = leb-true _ _ (y .1 .1 .1 .1 .1 .0) in
-    let qr : at t 8 ≤ at t 1 = leb-true _ _ (y .1 .1 .1 .1 .1 .1 .0) in
+    let x = pass-parts _ (z .1 .0) in
+    let hs = pass-parts _ (z .1 .1 .1 .0) in
+    let d = option-sound (at t 3) (at t 4) (y .1 .1 .0) in
+    let e = option-sound (at t 5) (at t 6) (y .1 .1 .1 .0) in
+    let kind : at t 1 ≤ 1 = leb-true _ _ (x .0) in
+    let ql : at t 7 ≤ 1 = leb-true _ _ (x .1 .0) in
+    let qr : at t 8 ≤ at t 1 = leb-true _ _ (x .1 .1 .0) in
     let qr' : at t 8 ≤ 1 = omega arith in
-    let s = seats-decide (at t 0) .sound (between seatsAt leftAt t) (between-words seatsAt leftAt t ws) (between-length seatsAt leftAt t (omega arith)) (z .1 .0) in
-    let a = ids-decides mostHalf .sound (between leftAt rightAt t) (between-words leftAt rightAt t ws) (between-length leftAt rightAt t (omega arith)) (z .1 .1 .0) in
-    let b = ids-decides mostHalf .sound (between rightAt reshapeWidth t) (between-words rightAt reshapeWidth t ws) (between-length rightAt reshapeWidth t (omega arith)) (z .1 .1 .1 .0) in
+    let s = seats-decide (at t 0) .sound (between seatsAt leftAt t) (between-words seatsAt leftAt t ws) (between-length seatsAt leftAt t (omega arith)) (z .1 .1 .0) in
+    let a = ids-decides mostHalf .sound (between leftAt rightAt t) (between-words leftAt rightAt t ws) (between-length leftAt rightAt t (omega arith)) (hs .0) in
+    let b = ids-decides mostHalf .sound (between rightAt reshapeWidth t) (between-words rightAt reshapeWidth t ws) (between-length rightAt reshapeWidth t (omega arith)) (hs .1 .0) in
     let v : Entry Reshape =
     entry (at t 0) (record {
       kind = kindOf (at t 1);
@@ -188,7 +190,7 @@ reshape-sound t ws l h =
       fine = all-joins _ (
         y .0,
         (
-          y .1 .1 .0,
+          y .1 .0,
           (
             d .fine,
             (
@@ -203,7 +205,7 @@ reshape-sound t ws l h =
                       b .fine,
                       (
                         halves-sound (at t 1) (at t 5) (at t leftAt) (at t rightAt) (e .value) (a .value) (b .value) (e .flag)
-                            (first-of leftAt rightAt _ t _ (omega arith) (a .words)) (first-of rightAt reshapeWidth _ t _ (omega arith) (b .words)) (z .1 .1 .1 .1 .0),
+                            (first-of leftAt rightAt _ t _ (omega arith) (a .words)) (first-of rightAt reshapeWidth _ t _ (omega arith) (b .words)) (hs .1 .1 .0),
                         tt,
                       ),
                     ),
@@ -217,7 +219,7 @@ reshape-sound t ws l h =
     }
 
 reshape-complete : (e : Entry Reshape) → goodReshape e ≡ true → reshapeOk (reshapeRow e) ≡ true
-unfolding reshapeOk headOk reshapeRow reshapeHead reshapeWords goodReshape
+unfolding reshapeOk epochsOk flagsOk halvesOk reshapeRow reshapeHead reshapeWords goodReshape
 reshape-complete e g =
     let p = all-parts _ g in
     let S = seatTable (e .val .seats) in
@@ -234,33 +236,24 @@ reshape-complete e g =
     let a : between leftAt rightAt t ≡ L = ap (take (rightAt - leftAt)) da ∙ take-at L R (rightAt - leftAt) la in
     let b : between rightAt reshapeWidth t ≡ R = to-end rightAt reshapeWidth t lt ∙ db in
     pass-joins _ (
-      pass-joins _ (
-        p .0,
+      pass-joins _ (p .0, (p .1 .0, (option-complete (e .val .drainBy) (p .1 .1 .0), (option-complete (e .val .terminal) (p .1 .1 .1 .0), tt)))),
+      (
+        pass-joins _ (kind-small (e .val .kind), (bit-small (e .val .quietLeft), (quiet-complete (e .val .kind) (e .val .quietRight) (p .1 .1 .1 .1 .0), tt))),
         (
-          kind-small (e .val .kind),
+          ap (seatsOk (e .key)) s ∙ seats-decide (e .key) .complete (e .val .seats) (p .1 .1 .1 .1 .1 .0),
           (
-            p .1 .0,
-            (
-              option-complete (e .val .drainBy) (p .1 .1 .0),
+            pass-joins _ (
+              ap (idsOk mostHalf) a ∙ ids-decides mostHalf .complete (e .val .left) (p .1 .1 .1 .1 .1 .1 .0),
               (
-                option-complete (e .val .terminal) (p .1 .1 .1 .0),
-                (bit-small (e .val .quietLeft), (quiet-complete (e .val .kind) (e .val .quietRight) (p .1 .1 .1 .1 .0), tt)),
+                ap (idsOk mostHalf) b ∙ ids-decides mostHalf .complete (e .val .right) (p .1 .1 .1 .1 .1 .1 .1 .0),
+                (
+                  halves-complete (e .val .kind) (e .val .terminal) (e .val .left) (e .val .right) (at t leftAt) (at t rightAt)
+                      (first-of leftAt rightAt _ t _ (omega arith) a) (first-of rightAt reshapeWidth _ t _ (omega arith) b) (p .1 .1 .1 .1 .1 .1 .1 .1 .0),
+                  tt,
+                ),
               ),
             ),
-          ),
-        ),
-      ),
-      (
-        ap (seatsOk (e .key)) s ∙ seats-decide (e .key) .complete (e .val .seats) (p .1 .1 .1 .1 .1 .0),
-        (
-          ap (idsOk mostHalf) a ∙ ids-decides mostHalf .complete (e .val .left) (p .1 .1 .1 .1 .1 .1 .0),
-          (
-            ap (idsOk mostHalf) b ∙ ids-decides mostHalf .complete (e .val .right) (p .1 .1 .1 .1 .1 .1 .1 .0),
-            (
-              halves-complete (e .val .kind) (e .val .terminal) (e .val .left) (e .val .right) (at t leftAt) (at t rightAt)
-                  (first-of leftAt rightAt _ t _ (omega arith) a) (first-of rightAt reshapeWidth _ t _ (omega arith) b) (p .1 .1 .1 .1 .1 .1 .1 .1 .0),
-              tt,
-            ),
+            tt,
           ),
         ),
       ),

@@ -23,7 +23,7 @@ use Rattle.rules.proofs.Tests.{and-parts, and-joins, all-parts, all-joins}
 use Rattle.tables.specs.Rows.{pad}
 use Rattle.board.specs.Layout.{machineWidth, membersAt, committeeWidth, boundaryWidth, rotationWidth, machinesAt, committeeRow, settingsTable}
 use Rattle.board.proofs.Widths.{machine-wide, committee-wide, boundary-wide, rotation-wide, settings-wide}
-use Rattle.wellformed.specs.Check.{at, between, allPass, caseOk, placeCases, placeOk, machineOk, committeeOk, optionOk, boundaryOk, rotationOk, idsOk, settingsOk}
+use Rattle.wellformed.specs.Check.{at, between, allPass, anyPass, caseOk, placeCases, machineOk, committeeOk, optionOk, boundaryOk, rotationOk, idsOk, numbersOk, settingsOk}
 use Rattle.wellformed.proofs.Tests.{Some, pass-parts, pass-joins, any-cases, any-joins}
 use Rattle.wellformed.proofs.Decides.{Words, words-cut, word-at, Held, Decides, padded, heads, zero-complete, ids-decides}
 
@@ -109,8 +109,8 @@ four p q r s = cc
 nought : (n : ℕ) → leb n 0 ≡ true → n ≡ 0
 nought n h = omega (arith, leb-true n 0 h)
 
-place-sound : (c m r s : ℕ) → placeOk c m r s ≡ true → Held placeWords goodPlace (c ∷ m ∷ r ∷ s ∷ [])
-unfolding placeOk placeWords goodPlace
+place-sound : (c m r s : ℕ) → anyPass (placeCases c m r s) ≡ true → Held placeWords goodPlace (c ∷ m ∷ r ∷ s ∷ [])
+unfolding placeWords goodPlace
 place-sound c m r s h = go (any-cases _ h)
   where
     go : Some (placeCases c m r s) → Held placeWords goodPlace (c ∷ m ∷ r ∷ s ∷ [])
@@ -131,8 +131,8 @@ place-sound c m r s h = go (any-cases _ h)
         record { value = Other m; words = four (y .code) refl (omega (arith, y .ready)) (nought s (y .stamp)); fine = y .mark }
     go (inr (inr (inr (inr (inr q))))) = absurd q
 
-place-complete : (p : Place) → goodPlace p ≡ true → placeOk (at (placeWords p) 0) (at (placeWords p) 1) (at (placeWords p) 2) (at (placeWords p) 3) ≡ true
-unfolding placeOk placeWords goodPlace
+place-complete : (p : Place) → goodPlace p ≡ true → anyPass (placeCases (at (placeWords p) 0) (at (placeWords p) 1) (at (placeWords p) 2) (at (placeWords p) 3)) ≡ true
+unfolding placeWords goodPlace
 place-complete Pooled g = any-joins _ (inl (case-complete _ _ _ _ _ 0 0 0 (and-joins _ _ refl refl) refl refl))
 place-complete (Seated s r e) g = let p = and-parts _ _ g in any-joins _ (inr (inl (case-complete _ _ _ _ _ (s .0) (bitOf r) (e .0) (p .0) (bit-small r) (p .1))))
 place-complete (Observing s e) g = let p = and-parts _ _ g in any-joins _ (inr (inr (inl (case-complete _ _ _ _ _ (s .0) 0 (e .0) (p .0) refl (p .1)))))
@@ -223,23 +223,20 @@ rotation-decides = record { wide = rotation-wide; sound = rotation-sound; comple
 -- ---- settings
 
 settings-sound : (t : List ℕ) → Words t → length t ≡ machinesAt → settingsOk t ≡ true → Held settingsTable goodSettings t
-unfolding settingsOk settingsTable settingsWords goodSettings
+unfolding settingsOk numbersOk settingsTable settingsWords goodSettings
 settings-sound t ws l h =
-    let y = pass-parts _ h in
-    let n : at t 0 ≡ 6 = eqb-true (at t 0) 6 (y .0) in
-    let z = y .1 .1 .1 .1 .1 .1 .1 .0 in
+    let z = pass-parts _ h in
+    let n : at t 0 ≡ 6 = eqb-true (at t 0) 6 (z .0) in
     record {
       value = record { epoch = at t 1; size = at t 2; drain = at t 3; wait = at t 4; interval = at t 5; most = at t 6 };
       words = padded machinesAt t (6 ∷ gets 1 6 t) (between 7 machinesAt t)
-          (gets-is 7 0 t (omega arith) ∙ ap (λ (m : ℕ). m ∷ (gets 1 6 t ++ drop 7 t)) n ∙ ap (λ (u : List ℕ). (6 ∷ gets 1 6 t) ++ u) (sym (to-end 7 machinesAt t (omega arith)))) l z;
-      fine = all-joins _ (y .1 .0, (y .1 .1 .0, (y .1 .1 .1 .0, (y .1 .1 .1 .1 .0, (y .1 .1 .1 .1 .1 .0, (y .1 .1 .1 .1 .1 .1 .0, tt))))));
+          (gets-is 7 0 t (omega arith) ∙ ap (λ (m : ℕ). m ∷ (gets 1 6 t ++ drop 7 t)) n ∙ ap (λ (u : List ℕ). (6 ∷ gets 1 6 t) ++ u) (sym (to-end 7 machinesAt t (omega arith)))) l (z .1 .1 .0);
+      fine = all-joins _ (pass-parts _ (z .1 .0));
     }
 
 settings-complete : (s : Settings) → goodSettings s ≡ true → settingsOk (settingsTable s) ≡ true
-unfolding settingsOk settingsTable settingsWords goodSettings pad
-settings-complete s g =
-    let p = all-parts _ g in
-    pass-joins _ (refl, (p .0, (p .1 .0, (p .1 .1 .0, (p .1 .1 .1 .0, (p .1 .1 .1 .1 .0, (p .1 .1 .1 .1 .1 .0, (zero-complete 9, tt))))))))
+unfolding settingsOk numbersOk settingsTable settingsWords goodSettings pad
+settings-complete s g = pass-joins _ (refl, (pass-joins _ (all-parts _ g), (zero-complete 9, tt)))
 
 pub settings-decides : Decides settingsTable goodSettings machinesAt settingsOk
 settings-decides = record { wide = settings-wide; sound = settings-sound; complete = settings-complete }

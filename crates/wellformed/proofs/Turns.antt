@@ -7,12 +7,12 @@ use native.Mathlib.Omega.{arith}
 use borrow.Author.Tests.{le-leb, lt-leb, leb-true, ne-eqb, eq-eqb}
 use lib.Dec.{eqb, leb}
 use lib.ListN.{length, take, drop, length-drop}
-use lib.Seq.{drop-drop}
+use lib.Seq.{drop-drop, length-take-le}
 use Rattle.rules.specs.Lists.{distinct}
 use Rattle.rules.specs.Board.{mostMachines, mostCommittees, mostBounds, mostRotations, mostReshapes}
 use Rattle.board.specs.Layout.{machinesAt, committeesAt, boundsAt, rotationsAt, reshapesAt, boardSize}
 use Rattle.wellformed.specs.declared.RowKind.the-variants.{Machines, Committees, Boundaries, Rotations, Reshapes}
-use Rattle.wellformed.specs.Check.{at, between, allPass, anyPass, allZero, idsOk, firstOk, rowsOk, tableOk, sectionOk, settingsOk, wellFormedWords}
+use Rattle.wellformed.specs.Check.{at, between, allPass, anyPass, allZero, idsOk, firstOk, rowsOk, tableOk, kindOk, settingsOk, wellFormedWords}
 use Rattle.wellformed.proofs.Tests.{left-true}
 use Rattle.wellformed.proofs.Loops.{rest-is}
 
@@ -96,13 +96,17 @@ module _ (ok : List ℕ → Bool) (lt : List ℕ → List ℕ → Bool) (w : ℕ
 
 -- ---- the board
 
+-- a section has its count
+pub section-there : (a e : ℕ) (t : List ℕ) → a < e → e ≤ boardSize → length t ≡ boardSize → 1 ≤ length (between a e t)
+section-there a e t h m l = omega (arith, length-take-le (e - a) (drop a t) (omega (arith, length-drop a t)))
+
 pub words-other : (t : List ℕ) → (length t ≡ boardSize → ⊥) → false ≡ wellFormedWords t
 unfolding wellFormedWords allPass
 words-other t h = let e : eqb (length t) boardSize ≡ false = ne-eqb (length t) boardSize h in rw e
 
-pub words-are : (t : List ℕ) (s m c b o r : Bool) → length t ≡ boardSize → s ≡ settingsOk (between 0 machinesAt t) → m ≡ sectionOk Machines mostMachines (between machinesAt committeesAt t)
-    → c ≡ sectionOk Committees mostCommittees (between committeesAt boundsAt t) → b ≡ sectionOk Boundaries mostBounds (between boundsAt rotationsAt t)
-    → o ≡ sectionOk Rotations mostRotations (between rotationsAt reshapesAt t) → r ≡ sectionOk Reshapes mostReshapes (between reshapesAt boardSize t)
+pub words-are : (t : List ℕ) (s m c b o r : Bool) → length t ≡ boardSize → s ≡ settingsOk (between 0 machinesAt t) → m ≡ kindOk Machines mostMachines (between machinesAt committeesAt t)
+    → c ≡ kindOk Committees mostCommittees (between committeesAt boundsAt t) → b ≡ kindOk Boundaries mostBounds (between boundsAt rotationsAt t)
+    → o ≡ kindOk Rotations mostRotations (between rotationsAt reshapesAt t) → r ≡ kindOk Reshapes mostReshapes (between reshapesAt boardSize t)
     → (s && m && c && b && o && r) ≡ wellFormedWords t
 unfolding wellFormedWords allPass
 words-are t s m c b o r l hs hm hc hb ho hr =

@@ -1,5 +1,6 @@
 -- The check as a computed test over any words. Nothing here is to be believed: proofs/Decided.antt has it say yes exactly of a well-formed board's words.
 use Prim.Native.Nat.{ℕ, zero, suc, _-_}
+use mathlib.Core.Path.{_≡_}
 use mathlib.Core.List.{List, [], _∷_}
 use mathlib.Core.Bool.{Bool, true, false, _&&_, _||_}
 use lib.Dec.{leb, ltb, eqb}
@@ -45,13 +46,9 @@ allZero = every (λ x. eqb x 0)
 
 -- ---- tables
 
--- the first word rises
-abbrev pub keyRises : List ℕ → List ℕ → Bool
-keyRises s t = ltb (at s 0) (at t 0)
-
--- the first two words rise, as a pair
-abbrev pub pairRises : List ℕ → List ℕ → Bool
-pairRises s t = anyPass (ltb (at s 0) (at t 0) ∷ allPass (eqb (at s 0) (at t 0) ∷ ltb (at s 1) (at t 1) ∷ []) ∷ [])
+-- the first word rises; or, of rows in pairs, it is the same and the second rises
+abbrev pub rises : Bool → List ℕ → List ℕ → Bool
+rises pairs s t = anyPass (ltb (at s 0) (at t 0) ∷ allPass (pairs ∷ eqb (at s 0) (at t 0) ∷ ltb (at s 1) (at t 1) ∷ []) ∷ [])
 
 -- ok: a row is good; lt: a row's words, with any after them, are below the next's
 module _ (ok : List ℕ → Bool) (lt : List ℕ → List ℕ → Bool) (w : ℕ) where
@@ -77,6 +74,7 @@ idsOk cap t = allPass (leb (at t 0) cap ∷ distinct (take (at t 0) (drop 1 t)) 
 unfoldable pub caseOk : ℕ → ℕ → ℕ → ℕ → ℕ → ℕ → ℕ → ℕ → ℕ → Bool
 caseOk code mark ready stamp k low high r s = allPass (eqb code k ∷ within low high mark ∷ leb ready r ∷ leb stamp s ∷ [])
 
+-- pooled, seated, observing, short, other: the words that a place does not use are 0
 abbrev pub placeCases : ℕ → ℕ → ℕ → ℕ → List Bool
 placeCases c m r s =
     caseOk c m r s 0 0 0 0 0
@@ -86,11 +84,8 @@ placeCases c m r s =
     ∷ caseOk c m r s 4 1 255 0 0
     ∷ []
 
-unfoldable pub placeOk : ℕ → ℕ → ℕ → ℕ → Bool
-placeOk c m r s = anyPass (placeCases c m r s)
-
 unfoldable pub machineOk : List ℕ → Bool
-machineOk t = placeOk (at t 1) (at t 2) (at t 3) (at t 4)
+machineOk t = anyPass (placeCases (at t 1) (at t 2) (at t 3) (at t 4))
 
 unfoldable pub committeeOk : List ℕ → Bool
 committeeOk t = allPass (isShard (at t 0) ∷ idsOk mostMembers (between membersAt committeeWidth t) ∷ [])
@@ -109,34 +104,30 @@ unfoldable pub seatOk : ℕ → List ℕ → Bool
 seatOk target t = allPass (eqb (parentOf (at t 1)) target ∷ leb (at t 2) 1 ∷ [])
 
 abbrev pub seatsOk : ℕ → List ℕ → Bool
-seatsOk target = tableOk (seatOk target) keyRises seatWidth mostSeats
+seatsOk target = tableOk (seatOk target) (rises false) seatWidth mostSeats
 
--- the kind, the flag of the terminal, and how many are in each half: a scheduled split, or both empty
-unfoldable pub halvesOk : ℕ → ℕ → ℕ → ℕ → Bool
-halvesOk k f l r = anyPass (allPass (eqb k 0 ∷ eqb f 1 ∷ []) ∷ allPass (eqb l 0 ∷ eqb r 0 ∷ []) ∷ [])
+-- target, admitted, drain-by and terminal
+unfoldable pub epochsOk : List ℕ → Bool
+epochsOk t = allPass (isTarget (at t 0) ∷ isStamp (at t 2) ∷ optionOk (at t 3) (at t 4) ∷ optionOk (at t 5) (at t 6) ∷ [])
 
--- the nine words that a reshape begins with; quiet right is at most the kind, which is 0 for a split
-unfoldable pub headOk : List ℕ → Bool
-headOk t =
+-- kind, quiet left and quiet right, which is at most the kind: 0 for a split
+unfoldable pub flagsOk : List ℕ → Bool
+flagsOk t = allPass (leb (at t 1) 1 ∷ leb (at t 7) 1 ∷ leb (at t 8) (at t 1) ∷ [])
+
+-- a split with a terminal, or both halves empty
+unfoldable pub scheduledOk : ℕ → ℕ → ℕ → ℕ → Bool
+scheduledOk kind flag left right = anyPass (allPass (eqb kind 0 ∷ eqb flag 1 ∷ []) ∷ allPass (eqb left 0 ∷ eqb right 0 ∷ []) ∷ [])
+
+unfoldable pub halvesOk : List ℕ → Bool
+halvesOk t =
     allPass
-    (isTarget (at t 0)
-    ∷ leb (at t 1) 1
-    ∷ isStamp (at t 2)
-    ∷ optionOk (at t 3) (at t 4)
-    ∷ optionOk (at t 5) (at t 6)
-    ∷ leb (at t 7) 1
-    ∷ leb (at t 8) (at t 1)
+    (idsOk mostHalf (between leftAt rightAt t)
+    ∷ idsOk mostHalf (between rightAt reshapeWidth t)
+    ∷ scheduledOk (at t 1) (at t 5) (at t leftAt) (at t rightAt)
     ∷ [])
 
 unfoldable pub reshapeOk : List ℕ → Bool
-reshapeOk t =
-    allPass
-    (headOk t
-    ∷ seatsOk (at t 0) (between seatsAt leftAt t)
-    ∷ idsOk mostHalf (between leftAt rightAt t)
-    ∷ idsOk mostHalf (between rightAt reshapeWidth t)
-    ∷ halvesOk (at t 1) (at t 5) (at t leftAt) (at t rightAt)
-    ∷ [])
+reshapeOk t = allPass (epochsOk t ∷ flagsOk t ∷ seatsOk (at t 0) (between seatsAt leftAt t) ∷ halvesOk t ∷ [])
 
 -- ---- kinds of rows
 
@@ -147,12 +138,13 @@ rowOk Boundaries = boundaryOk
 rowOk Rotations = rotationOk
 rowOk Reshapes = reshapeOk
 
-abbrev pub risesOf : RowKind → List ℕ → List ℕ → Bool
-risesOf Machines = keyRises
-risesOf Committees = keyRises
-risesOf Boundaries = keyRises
-risesOf Rotations = pairRises
-risesOf Reshapes = keyRises
+-- by shard, then victim
+abbrev pub inPairs : RowKind → Bool
+inPairs Machines = false
+inPairs Committees = false
+inPairs Boundaries = false
+inPairs Rotations = true
+inPairs Reshapes = false
 
 abbrev pub widthOf : RowKind → ℕ
 widthOf Machines = machineWidth
@@ -161,34 +153,40 @@ widthOf Boundaries = boundaryWidth
 widthOf Rotations = rotationWidth
 widthOf Reshapes = reshapeWidth
 
+-- w and pairs are those of a kind of rows
+pub record Shape (k : RowKind) (w : ℕ) (pairs : Bool) : Type 0 where
+  pub wide : w ≡ widthOf k
+  pub paired : pairs ≡ inPairs k
+
 -- a table of any kind of rows
-abbrev pub sectionOk : RowKind → ℕ → List ℕ → Bool
-sectionOk k = tableOk (rowOk k) (risesOf k) (widthOf k)
+abbrev pub kindOk : RowKind → ℕ → List ℕ → Bool
+kindOk k = tableOk (rowOk k) (rises (inPairs k)) (widthOf k)
 
 -- ---- the board
 
--- six numbers are set, and the room for more is zeros
-unfoldable pub settingsOk : List ℕ → Bool
-settingsOk t =
+unfoldable pub numbersOk : List ℕ → Bool
+numbersOk t =
     allPass
-    (eqb (at t 0) 6
-    ∷ leb (at t 1) lastEpoch
+    (leb (at t 1) lastEpoch
     ∷ within 4 32 (at t 2)
     ∷ leb (at t 3) 1000000
     ∷ leb (at t 4) 1000000
     ∷ within 1 1000000 (at t 5)
     ∷ leb (at t 6) 48
-    ∷ allZero (between 7 machinesAt t)
     ∷ [])
+
+-- six numbers are set, and the room for more is zeros
+unfoldable pub settingsOk : List ℕ → Bool
+settingsOk t = allPass (eqb (at t 0) 6 ∷ numbersOk t ∷ allZero (between 7 machinesAt t) ∷ [])
 
 unfoldable pub wellFormedWords : List ℕ → Bool
 wellFormedWords t =
     allPass
     (eqb (length t) boardSize
     ∷ settingsOk (between 0 machinesAt t)
-    ∷ sectionOk Machines mostMachines (between machinesAt committeesAt t)
-    ∷ sectionOk Committees mostCommittees (between committeesAt boundsAt t)
-    ∷ sectionOk Boundaries mostBounds (between boundsAt rotationsAt t)
-    ∷ sectionOk Rotations mostRotations (between rotationsAt reshapesAt t)
-    ∷ sectionOk Reshapes mostReshapes (between reshapesAt boardSize t)
+    ∷ kindOk Machines mostMachines (between machinesAt committeesAt t)
+    ∷ kindOk Committees mostCommittees (between committeesAt boundsAt t)
+    ∷ kindOk Boundaries mostBounds (between boundsAt rotationsAt t)
+    ∷ kindOk Rotations mostRotations (between rotationsAt reshapesAt t)
+    ∷ kindOk Reshapes mostReshapes (between reshapesAt boardSize t)
     ∷ [])

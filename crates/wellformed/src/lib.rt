@@ -1,14 +1,14 @@
 // Whether lent words, of any length and content, hold a well-formed board: one pass, without copies.
 // The tests are joined by `&` and `|`, which leave no branch.
 ghost use mathlib.Core.Path.{_≡_};
-ghost use mathlib.Core.Bool.{not};
+ghost use mathlib.Core.Bool.{false, not};
 ghost use Prim.Native.Nat.{_+_, _≤_};
 ghost use lib.ListN.{length};
 ghost use Rattle.rules.specs.Lists.{has, distinct};
 ghost use Rattle.rules.specs.WellFormed.{within};
 ghost use Rattle.board.specs.Layout.{machineWidth, committeeWidth, boundaryWidth, rotationWidth, seatWidth, reshapeWidth, machinesAt};
 ghost use Rattle.wellformed.specs.Tells.{Tells};
-ghost use Rattle.wellformed.specs.Check.{at, allZero, idsOk, firstOk, keyRises, pairRises, caseOk, placeOk, machineOk, committeeOk, optionOk, boundaryOk, rotationOk, seatOk, seatsOk, halvesOk, headOk, reshapeOk, rowOk, risesOf, widthOf, sectionOk, settingsOk, wellFormedWords};
+ghost use Rattle.wellformed.specs.Check.{at, allZero, idsOk, rises, firstOk, caseOk, machineOk, committeeOk, optionOk, boundaryOk, rotationOk, seatOk, seatsOk, epochsOk, flagsOk, halvesOk, reshapeOk, rowOk, inPairs, widthOf, Shape, kindOk, numbersOk, settingsOk};
 
 // ---- The limits and ranges of rules/specs/Board.antt
 
@@ -36,7 +36,23 @@ const LAST_SHARD: u64 = 65535;
 
 const LAST_TARGET: u64 = 32767;
 
+const LAST_MARK: u64 = 255;
+
+const MOST_EPOCHS: u64 = 1000000;
+
+const MOST_IN_FLIGHT: u64 = 48;
+
+const LEAST_SIZE: u64 = 4;
+
+const MOST_SIZE: u64 = 32;
+
 // ---- The layout of board/specs/Layout.antt
+
+const SETTINGS_COUNT: u64 = 6;
+
+const SETTINGS_END: usize = 7;
+
+const SETTINGS_ROOM: usize = 15;
 
 const MACHINE_WIDTH: usize = 5;
 
@@ -58,7 +74,7 @@ const RIGHT_AT: usize = LEFT_AT + 1 + MOST_HALF;
 
 const RESHAPE_WIDTH: usize = RIGHT_AT + 1 + MOST_HALF;
 
-const MACHINES_AT: usize = 16;
+const MACHINES_AT: usize = 1 + SETTINGS_ROOM;
 
 const COMMITTEES_AT: usize = MACHINES_AT + 1 + MOST_MACHINES * MACHINE_WIDTH;
 
@@ -128,29 +144,20 @@ fn ids_ok(cap: usize, t: &[u64]) -> bool
     all_distinct(&t[1..e]) & all_zero(&t[e..])
 }
 
-// The first word, and 0 where there is none.
-fn first(t: &[u64]) -> u64
-    ensures { λ r. ⌜ r ≡ at (now (t .entry)) 0 ⌝ }
+// A word, and 0 where there is none.
+fn word_at(t: &[u64], i: usize) -> u64
+    ensures { λ r. ⌜ r ≡ at (now (t .entry)) i ⌝ }
 {
-    if 0 < t.len() { t[0] } else { 0 }
+    if i < t.len() { t[i] } else { 0 }
 }
 
-fn second(t: &[u64]) -> u64
-    ensures { λ r. ⌜ r ≡ at (now (t .entry)) 1 ⌝ }
+// A row's words are below the next row's: by their first words or, in pairs, by the first two.
+fn rises(pairs: bool, s: &[u64], t: &[u64]) -> bool
+    ensures { λ r. ⌜ r ≡ rises pairs (now (s .entry)) (now (t .entry)) ⌝ }
 {
-    if 1 < t.len() { t[1] } else { 0 }
-}
-
-fn key_rises(s: &[u64], t: &[u64]) -> bool
-    ensures { λ r. ⌜ r ≡ keyRises (now (s .entry)) (now (t .entry)) ⌝ }
-{
-    first(s) < first(t)
-}
-
-fn pair_rises(s: &[u64], t: &[u64]) -> bool
-    ensures { λ r. ⌜ r ≡ pairRises (now (s .entry)) (now (t .entry)) ⌝ }
-{
-    (first(s) < first(t)) | ((first(s) == first(t)) & (second(s) < second(t)))
+    let a = word_at(s, 0);
+    let b = word_at(t, 0);
+    (a < b) | (pairs & (a == b) & (word_at(s, 1) < word_at(t, 1)))
 }
 
 // ---- Rows
@@ -172,21 +179,19 @@ fn case_ok(
 }
 
 // Pooled, seated, observing, short or other: the words that a place does not use are 0.
-fn place_ok(c: u64, m: u64, r: u64, s: u64) -> bool
-    ensures { λ x. ⌜ x ≡ placeOk c m r s ⌝ }
-{
-    case_ok(c, m, r, s, 0, 0, 0, 0, 0)
-        | case_ok(c, m, r, s, 1, 1, LAST_SHARD, 1, LAST_STAMP)
-        | case_ok(c, m, r, s, 2, 1, LAST_SHARD, 0, LAST_STAMP)
-        | case_ok(c, m, r, s, 3, 0, 0, 0, 0)
-        | case_ok(c, m, r, s, 4, 1, 255, 0, 0)
-}
-
 fn machine_ok(t: &[u64]) -> bool
     requires { ⌜ length (now t) ≡ machineWidth ⌝ }
     ensures { λ r. ⌜ r ≡ machineOk (now (t .entry)) ⌝ }
 {
-    place_ok(t[1], t[2], t[3], t[4])
+    let c = t[1];
+    let m = t[2];
+    let r = t[3];
+    let s = t[4];
+    case_ok(c, m, r, s, 0, 0, 0, 0, 0)
+        | case_ok(c, m, r, s, 1, 1, LAST_SHARD, 1, LAST_STAMP)
+        | case_ok(c, m, r, s, 2, 1, LAST_SHARD, 0, LAST_STAMP)
+        | case_ok(c, m, r, s, 3, 0, 0, 0, 0)
+        | case_ok(c, m, r, s, 4, 1, LAST_MARK, 0, 0)
 }
 
 fn committee_ok(t: &[u64]) -> bool
@@ -232,12 +237,12 @@ fn seat_ok(target: u64, t: &[u64]) -> bool
 }
 
 fn first_seat_ok(target: u64, n: usize, t: &[u64]) -> bool
-    ensures { λ r. ⌜ r ≡ firstOk (seatOk target) keyRises seatWidth n (now (t .entry)) ⌝ }
+    ensures { λ r. ⌜ r ≡ firstOk (seatOk target) (rises false) seatWidth n (now (t .entry)) ⌝ }
 {
     if t.len() < SEAT_WIDTH {
         return false;
     }
-    seat_ok(target, &t[..SEAT_WIDTH]) & ((n == 1) | key_rises(t, &t[SEAT_WIDTH..]))
+    seat_ok(target, &t[..SEAT_WIDTH]) & ((n == 1) | rises(false, t, &t[SEAT_WIDTH..]))
 }
 
 // As `table_ok`, which calls it through `reshape_ok`.
@@ -260,34 +265,40 @@ fn seats_ok(target: u64, t: &[u64]) -> bool
     all_zero(&t[a..])
 }
 
-fn halves_ok(k: u64, f: u64, l: u64, r: u64) -> bool
-    ensures { λ x. ⌜ x ≡ halvesOk k f l r ⌝ }
-{
-    ((k == 0) & (f == 1)) | ((l == 0) & (r == 0))
-}
-
-fn head_ok(t: &[u64]) -> bool
+// Target, admitted, drain-by and terminal.
+fn epochs_ok(t: &[u64]) -> bool
     requires { ⌜ length (now t) ≡ reshapeWidth ⌝ }
-    ensures { λ r. ⌜ r ≡ headOk (now (t .entry)) ⌝ }
+    ensures { λ r. ⌜ r ≡ epochsOk (now (t .entry)) ⌝ }
 {
     inside(1, LAST_TARGET, t[0])
-        & (t[1] <= 1)
         & (t[2] <= LAST_STAMP)
         & option_ok(t[3], t[4])
         & option_ok(t[5], t[6])
-        & (t[7] <= 1)
-        & (t[8] <= t[1])
+}
+
+// Kind, quiet left and quiet right: the last is at most the kind, so 0 for a split.
+fn flags_ok(t: &[u64]) -> bool
+    requires { ⌜ length (now t) ≡ reshapeWidth ⌝ }
+    ensures { λ r. ⌜ r ≡ flagsOk (now (t .entry)) ⌝ }
+{
+    (t[1] <= 1) & (t[7] <= 1) & (t[8] <= t[1])
+}
+
+// Distinct ids, and none unless a split has its terminal.
+fn halves_ok(t: &[u64]) -> bool
+    requires { ⌜ length (now t) ≡ reshapeWidth ⌝ }
+    ensures { λ r. ⌜ r ≡ halvesOk (now (t .entry)) ⌝ }
+{
+    ids_ok(MOST_HALF, &t[LEFT_AT..RIGHT_AT])
+        & ids_ok(MOST_HALF, &t[RIGHT_AT..RESHAPE_WIDTH])
+        & (((t[1] == 0) & (t[5] == 1)) | ((t[LEFT_AT] == 0) & (t[RIGHT_AT] == 0)))
 }
 
 fn reshape_ok(t: &[u64]) -> bool
     requires { ⌜ length (now t) ≡ reshapeWidth ⌝ }
     ensures { λ r. ⌜ r ≡ reshapeOk (now (t .entry)) ⌝ }
 {
-    head_ok(t)
-        & seats_ok(t[0], &t[SEATS_AT..LEFT_AT])
-        & ids_ok(MOST_HALF, &t[LEFT_AT..RIGHT_AT])
-        & ids_ok(MOST_HALF, &t[RIGHT_AT..RESHAPE_WIDTH])
-        & halves_ok(t[1], t[5], t[LEFT_AT], t[RIGHT_AT])
+    epochs_ok(t) & flags_ok(t) & seats_ok(t[0], &t[SEATS_AT..LEFT_AT]) & halves_ok(t)
 }
 
 // ---- A table of any kind of rows
@@ -298,20 +309,6 @@ pub enum RowKind {
     Boundaries,
     Rotations,
     Reshapes,
-}
-
-impl RowKind {
-    fn width(self) -> usize
-        ensures { λ r. ⌜ r ≡ widthOf self ⌝ }
-    {
-        match self {
-            RowKind::Machines => MACHINE_WIDTH,
-            RowKind::Committees => COMMITTEE_WIDTH,
-            RowKind::Boundaries => BOUNDARY_WIDTH,
-            RowKind::Rotations => ROTATION_WIDTH,
-            RowKind::Reshapes => RESHAPE_WIDTH,
-        }
-    }
 }
 
 fn row_ok(k: RowKind, t: &[u64]) -> bool
@@ -327,41 +324,29 @@ fn row_ok(k: RowKind, t: &[u64]) -> bool
     }
 }
 
-fn rises(k: RowKind, s: &[u64], t: &[u64]) -> bool
-    ensures { λ r. ⌜ r ≡ risesOf k (now (s .entry)) (now (t .entry)) ⌝ }
-{
-    match k {
-        RowKind::Machines => key_rises(s, t),
-        RowKind::Committees => key_rises(s, t),
-        RowKind::Boundaries => key_rises(s, t),
-        RowKind::Rotations => pair_rises(s, t),
-        RowKind::Reshapes => key_rises(s, t),
-    }
-}
-
 // The first of n rows: it is there, it is good, and it is below the next.
-fn first_ok(k: RowKind, n: usize, t: &[u64]) -> bool
-    ensures { λ r. ⌜ r ≡ firstOk (rowOk k) (risesOf k) (widthOf k) n (now (t .entry)) ⌝ }
+fn first_ok(k: RowKind, w: usize, pairs: bool, n: usize, t: &[u64]) -> bool
+    requires { ⌜ Shape k w pairs ⌝ }
+    ensures { λ r. ⌜ r ≡ firstOk (rowOk k) (rises (inPairs k)) (widthOf k) n (now (t .entry)) ⌝ }
 {
-    let w = k.width();
     if t.len() < w {
         return false;
     }
-    row_ok(k, &t[..w]) & ((n == 1) | rises(k, t, &t[w..]))
+    row_ok(k, &t[..w]) & ((n == 1) | rises(pairs, t, &t[w..]))
 }
 
-fn table_ok(k: RowKind, cap: usize, t: &[u64]) -> bool
-    requires { ⌜ 1 ≤ length (now t) ⌝ }
-    ensures { λ r. ⌜ r ≡ sectionOk k cap (now (t .entry)) ⌝ }
+// A count, that many rows of w words in order, and zeros after them.
+fn table_ok(k: RowKind, w: usize, pairs: bool, cap: usize, t: &[u64]) -> bool
+    requires { ⌜ (1 ≤ length (now t)) × Shape k w pairs ⌝ }
+    ensures { λ r. ⌜ r ≡ kindOk k cap (now (t .entry)) ⌝ }
 {
-    let w = k.width();
     let mut n = t[0] as usize;
     if cap < n {
         return false;
     }
     let mut a: usize = 1;
     while 0 < n {
-        if !first_ok(k, n, &t[a..]) {
+        if !first_ok(k, w, pairs, n, &t[a..]) {
             return false;
         }
         a += w;
@@ -372,57 +357,48 @@ fn table_ok(k: RowKind, cap: usize, t: &[u64]) -> bool
 
 // ---- The board
 
+// Epoch, S, D, W, interval and most in flight.
+fn numbers_ok(t: &[u64]) -> bool
+    requires { ⌜ length (now t) ≡ machinesAt ⌝ }
+    ensures { λ r. ⌜ r ≡ numbersOk (now (t .entry)) ⌝ }
+{
+    (t[1] <= LAST_EPOCH)
+        & inside(LEAST_SIZE, MOST_SIZE, t[2])
+        & (t[3] <= MOST_EPOCHS)
+        & (t[4] <= MOST_EPOCHS)
+        & inside(1, MOST_EPOCHS, t[5])
+        & (t[6] <= MOST_IN_FLIGHT)
+}
+
 fn settings_ok(t: &[u64]) -> bool
     requires { ⌜ length (now t) ≡ machinesAt ⌝ }
     ensures { λ r. ⌜ r ≡ settingsOk (now (t .entry)) ⌝ }
 {
-    (t[0] == 6)
-        & (t[1] <= LAST_EPOCH)
-        & inside(4, 32, t[2])
-        & (t[3] <= 1000000)
-        & (t[4] <= 1000000)
-        & inside(1, 1000000, t[5])
-        & (t[6] <= 48)
-        & all_zero(&t[7..MACHINES_AT])
-}
-
-fn words_ok(t: &[u64]) -> bool
-    ensures { λ r. ⌜ r ≡ wellFormedWords (now (t .entry)) ⌝ }
-{
-    if t.len() != BOARD_SIZE {
-        return false;
-    }
-    settings_ok(&t[0..MACHINES_AT])
-        & table_ok(
-            RowKind::Machines,
-            MOST_MACHINES,
-            &t[MACHINES_AT..COMMITTEES_AT],
-        )
-        & table_ok(
-            RowKind::Committees,
-            MOST_COMMITTEES,
-            &t[COMMITTEES_AT..BOUNDS_AT],
-        )
-        & table_ok(
-            RowKind::Boundaries,
-            MOST_BOUNDS,
-            &t[BOUNDS_AT..ROTATIONS_AT],
-        )
-        & table_ok(
-            RowKind::Rotations,
-            MOST_ROTATIONS,
-            &t[ROTATIONS_AT..RESHAPES_AT],
-        )
-        & table_ok(
-            RowKind::Reshapes,
-            MOST_RESHAPES,
-            &t[RESHAPES_AT..BOARD_SIZE],
-        )
+    (t[0] == SETTINGS_COUNT) & numbers_ok(t) & all_zero(&t[SETTINGS_END..MACHINES_AT])
 }
 
 // Whether the words, of any length, are those of a well-formed board.
 pub fn well_formed(board: &[u64]) -> bool
     ensures { λ r. ⌜ Tells (now (board .entry)) r ⌝ }
 {
-    words_ok(board)
+    if board.len() != BOARD_SIZE {
+        return false;
+    }
+    let m = &board[MACHINES_AT..COMMITTEES_AT];
+    let c = &board[COMMITTEES_AT..BOUNDS_AT];
+    let b = &board[BOUNDS_AT..ROTATIONS_AT];
+    let o = &board[ROTATIONS_AT..RESHAPES_AT];
+    let r = &board[RESHAPES_AT..BOARD_SIZE];
+    settings_ok(&board[0..MACHINES_AT])
+        & table_ok(RowKind::Machines, MACHINE_WIDTH, false, MOST_MACHINES, m)
+        & table_ok(
+            RowKind::Committees,
+            COMMITTEE_WIDTH,
+            false,
+            MOST_COMMITTEES,
+            c,
+        )
+        & table_ok(RowKind::Boundaries, BOUNDARY_WIDTH, false, MOST_BOUNDS, b)
+        & table_ok(RowKind::Rotations, ROTATION_WIDTH, true, MOST_ROTATIONS, o)
+        & table_ok(RowKind::Reshapes, RESHAPE_WIDTH, false, MOST_RESHAPES, r)
 }

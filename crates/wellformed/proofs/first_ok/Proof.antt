@@ -5,17 +5,14 @@ use borrow.Author.Needs.{needs}
 use Rattle.wellformed.proofs.first_ok.Statement.{statement}
 use Rattle.wellformed.proofs.first_ok.Tie as tie
 
-width-requires : tie.Need-width-requires
-width-requires c κs = search needs
-
 returns : tie.Need-returns
-returns c = first-short _ _ _ _ (c .before .width .ensures) _ (c .before .before .before .args .t .now) (c .if1 .taken)
+returns c = first-short _ _ _ _ (c .before .before .pre .wide) _ (c .before .before .args .t .now) (c .if1 .taken)
 
 slice-aggregate-row-ok : tie.Need-slice-aggregate-row-ok
 slice-aggregate-row-ok c = sym (length-take-le _ _ (c .before .if1 .left))
 
 row-ok-requires : tie.Need-row-ok-requires
-row-ok-requires c κs = length-take-le _ _ (c .before .if1 .left) ∙ c .before .before .width .ensures
+row-ok-requires c κs = length-take-le _ _ (c .before .if1 .left) ∙ c .before .before .before .pre .wide
 
 mul-rises : tie.Need-mul-rises
 mul-rises c = search needs
@@ -33,13 +30,12 @@ rises-requires : tie.Need-rises-requires
 rises-requires c κs = search needs
 
 returns-2 : tie.Need-returns-2
-returns-2 c = first-is _ _ _ _ (c .before .before .before .before .before .width .ensures) _ (c .before .before .before .before .before .before .before .args .t .now) _ _ (c .before .before .before .before .if1 .left) (c .before .before .row-ok .ensures) (c .rises .ensures)
+returns-2 c = first-is _ _ _ _ (c .before .before .before .before .before .before .pre .wide) _ (c .before .before .before .before .before .before .args .t .now) _ _ (c .before .before .before .before .if1 .left) (c .before .before .row-ok .ensures) (cc)
 
 pub first-ok-spec : {M : Type 1} → statement M
 first-ok-spec =
     tie.close
     (tie.spec
-    width-requires
     returns
     slice-aggregate-row-ok
     row-ok-requires

@@ -1,5 +1,6 @@
 use mathlib.Core.Path.{refl, sym}
 use lib.Seq.{length-take-le}
+use Rattle.board.specs.Layout.{seatWidth}
 use Rattle.wellformed.proofs.Turns.{first-short, first-is}
 use borrow.Author.Needs.{needs}
 use Rattle.wellformed.proofs.first_seat_ok.Statement.{statement}
@@ -9,25 +10,25 @@ returns : tie.Need-returns
 returns c = first-short _ _ _ _ refl _ (c .before .before .args .t .now) (c .if1 .taken)
 
 slice-aggregate-seat-ok : tie.Need-slice-aggregate-seat-ok
-slice-aggregate-seat-ok c = sym (length-take-le 3 (c .before .before .before .args .t .now) (c .before .if1 .left))
+slice-aggregate-seat-ok c = sym (length-take-le seatWidth (c .before .before .before .args .t .now) (c .before .if1 .left))
 
 seat-ok-requires : tie.Need-seat-ok-requires
-seat-ok-requires c κs = length-take-le 3 (c .before .before .before .args .t .now) (c .before .if1 .left)
+seat-ok-requires c κs = length-take-le seatWidth (c .before .before .before .args .t .now) (c .before .if1 .left)
 
-sub-key-rises : tie.Need-sub-key-rises
-sub-key-rises c = search needs
+sub-rises : tie.Need-sub-rises
+sub-rises c = search needs
 
-part-key-rises-start : tie.Need-part-key-rises-start
-part-key-rises-start c = search needs
+part-rises-start : tie.Need-part-rises-start
+part-rises-start c = search needs
 
-part-key-rises-end : tie.Need-part-key-rises-end
-part-key-rises-end c = search needs
+part-rises-end : tie.Need-part-rises-end
+part-rises-end c = search needs
 
-key-rises-requires : tie.Need-key-rises-requires
-key-rises-requires c κs = search needs
+rises-requires : tie.Need-rises-requires
+rises-requires c κs = search needs
 
 returns-2 : tie.Need-returns-2
-returns-2 c = first-is _ _ _ _ refl _ (c .before .before .before .before .before .before .args .t .now) _ _ (c .before .before .before .before .if1 .left) (c .before .before .seat-ok .ensures) (c .key-rises .ensures)
+returns-2 c = first-is _ _ _ _ refl _ (c .before .before .before .before .before .before .args .t .now) _ _ (c .before .before .before .before .if1 .left) (c .before .before .seat-ok .ensures) (c .rises .ensures)
 
 pub first-seat-ok-spec : {M : Type 1} → statement M
 first-seat-ok-spec =
@@ -36,8 +37,8 @@ first-seat-ok-spec =
     returns
     slice-aggregate-seat-ok
     seat-ok-requires
-    sub-key-rises
-    part-key-rises-start
-    part-key-rises-end
-    key-rises-requires
+    sub-rises
+    part-rises-start
+    part-rises-end
+    rises-requires
     returns-2)

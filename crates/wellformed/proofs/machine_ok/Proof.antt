@@ -1,34 +1,50 @@
-use Rattle.wellformed.specs.Check.{machineOk}
+use Rattle.wellformed.specs.Check.{machineOk, anyPass}
 use borrow.Author.Needs.{needs}
 use Rattle.wellformed.proofs.machine_ok.Statement.{statement}
 use Rattle.wellformed.proofs.machine_ok.Tie as tie
 
-shared-slice-read-place-ok : tie.Need-shared-slice-read-place-ok
-shared-slice-read-place-ok c = search needs
+shared-slice-read-c : tie.Need-shared-slice-read-c
+shared-slice-read-c c = search needs
 
-shared-slice-read-place-ok-2 : tie.Need-shared-slice-read-place-ok-2
-shared-slice-read-place-ok-2 c = search needs
+shared-slice-read-m : tie.Need-shared-slice-read-m
+shared-slice-read-m c = search needs
 
-shared-slice-read-place-ok-3 : tie.Need-shared-slice-read-place-ok-3
-shared-slice-read-place-ok-3 c = search needs
+shared-slice-read-r : tie.Need-shared-slice-read-r
+shared-slice-read-r c = search needs
 
-shared-slice-read-place-ok-4 : tie.Need-shared-slice-read-place-ok-4
-shared-slice-read-place-ok-4 c = search needs
+shared-slice-read-s : tie.Need-shared-slice-read-s
+shared-slice-read-s c = search needs
 
-place-ok-requires : tie.Need-place-ok-requires
-place-ok-requires c κs = search needs
+case-ok-requires : tie.Need-case-ok-requires
+case-ok-requires c κs = search needs
+
+case-ok-requires-2 : tie.Need-case-ok-requires-2
+case-ok-requires-2 c κs = search needs
+
+case-ok-requires-3 : tie.Need-case-ok-requires-3
+case-ok-requires-3 c κs = search needs
+
+case-ok-requires-4 : tie.Need-case-ok-requires-4
+case-ok-requires-4 c κs = search needs
+
+case-ok-requires-5 : tie.Need-case-ok-requires-5
+case-ok-requires-5 c κs = search needs
 
 returns : tie.Need-returns
-unfolding machineOk
-returns c = cc
+unfolding machineOk anyPass
+returns c = rw (c .before .before .before .before .case-ok .ensures, c .before .before .before .case-ok2 .ensures, c .before .before .case-ok3 .ensures, c .before .case-ok4 .ensures, c .case-ok5 .ensures)
 
 pub machine-ok-spec : {M : Type 1} → statement M
 machine-ok-spec =
     tie.close
     (tie.spec
-    shared-slice-read-place-ok
-    shared-slice-read-place-ok-2
-    shared-slice-read-place-ok-3
-    shared-slice-read-place-ok-4
-    place-ok-requires
+    shared-slice-read-c
+    shared-slice-read-m
+    shared-slice-read-r
+    shared-slice-read-s
+    case-ok-requires
+    case-ok-requires-2
+    case-ok-requires-3
+    case-ok-requires-4
+    case-ok-requires-5
     returns)

@@ -3,8 +3,11 @@ use borrow.Author.Needs.{needs}
 use Rattle.wellformed.proofs.reshape_ok.Statement.{statement}
 use Rattle.wellformed.proofs.reshape_ok.Tie as tie
 
-head-ok-requires : tie.Need-head-ok-requires
-head-ok-requires c κs = search needs
+epochs-ok-requires : tie.Need-epochs-ok-requires
+epochs-ok-requires c κs = search needs
+
+flags-ok-requires : tie.Need-flags-ok-requires
+flags-ok-requires c κs = search needs
 
 shared-slice-read-seats-ok : tie.Need-shared-slice-read-seats-ok
 shared-slice-read-seats-ok c = search needs
@@ -21,42 +24,6 @@ part-seats-ok-end c = search needs
 seats-ok-requires : tie.Need-seats-ok-requires
 seats-ok-requires c κs = search needs
 
-sub-ids-ok : tie.Need-sub-ids-ok
-sub-ids-ok c = search needs
-
-part-ids-ok-start : tie.Need-part-ids-ok-start
-part-ids-ok-start c = search needs
-
-part-ids-ok-end : tie.Need-part-ids-ok-end
-part-ids-ok-end c = search needs
-
-ids-ok-requires : tie.Need-ids-ok-requires
-ids-ok-requires c κs = search needs
-
-sub-ids-ok-2 : tie.Need-sub-ids-ok-2
-sub-ids-ok-2 c = search needs
-
-part-ids-ok-start-2 : tie.Need-part-ids-ok-start-2
-part-ids-ok-start-2 c = search needs
-
-part-ids-ok-end-2 : tie.Need-part-ids-ok-end-2
-part-ids-ok-end-2 c = search needs
-
-ids-ok-requires-2 : tie.Need-ids-ok-requires-2
-ids-ok-requires-2 c κs = search needs
-
-shared-slice-read-halves-ok : tie.Need-shared-slice-read-halves-ok
-shared-slice-read-halves-ok c = search needs
-
-shared-slice-read-halves-ok-2 : tie.Need-shared-slice-read-halves-ok-2
-shared-slice-read-halves-ok-2 c = search needs
-
-shared-slice-read-halves-ok-3 : tie.Need-shared-slice-read-halves-ok-3
-shared-slice-read-halves-ok-3 c = search needs
-
-shared-slice-read-halves-ok-4 : tie.Need-shared-slice-read-halves-ok-4
-shared-slice-read-halves-ok-4 c = search needs
-
 halves-ok-requires : tie.Need-halves-ok-requires
 halves-ok-requires c κs = search needs
 
@@ -68,23 +35,12 @@ pub reshape-ok-spec : {M : Type 1} → statement M
 reshape-ok-spec =
     tie.close
     (tie.spec
-    head-ok-requires
+    epochs-ok-requires
+    flags-ok-requires
     shared-slice-read-seats-ok
     sub-seats-ok
     part-seats-ok-start
     part-seats-ok-end
     seats-ok-requires
-    sub-ids-ok
-    part-ids-ok-start
-    part-ids-ok-end
-    ids-ok-requires
-    sub-ids-ok-2
-    part-ids-ok-start-2
-    part-ids-ok-end-2
-    ids-ok-requires-2
-    shared-slice-read-halves-ok
-    shared-slice-read-halves-ok-2
-    shared-slice-read-halves-ok-3
-    shared-slice-read-halves-ok-4
     halves-ok-requires
     returns)

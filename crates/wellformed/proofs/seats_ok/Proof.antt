@@ -1,17 +1,18 @@
 use borrow.Author.Needs.{needs}
 use Prim.Native.Nat.{_≤_}
 use mathlib.Core.Path.{_≡_, refl}
+use mathlib.Core.Bool.{false}
 use native.Mathlib.Omega.{arith}
 use borrow.Author.Tests.{not-true, not-false}
 use lib.ListN.{length, drop}
 use Rattle.board.specs.Layout.{seatWidth}
-use Rattle.wellformed.specs.Check.{seatOk, keyRises, rowsOk, seatsOk}
+use Rattle.wellformed.specs.Check.{seatOk, rises, rowsOk, seatsOk}
 use Rattle.wellformed.proofs.Turns.{table-many, table-start, table-end, table-fails, table-room, table-more}
 use Rattle.wellformed.proofs.seats_ok.Statement.{statement}
 use Rattle.wellformed.proofs.seats_ok.Tie as tie
 
 abbrev Inv-loop : tie.InvT-loop
-Inv-loop target t n₀ a₀ n a = (a ≤ length t) × (seatsOk target t ≡ rowsOk (seatOk target) keyRises seatWidth n (drop a t))
+Inv-loop target t n₀ a₀ n a = (a ≤ length t) × (seatsOk target t ≡ rowsOk (seatOk target) (rises false) seatWidth n (drop a t))
 
 abbrev μ-loop : tie.MeasureT-loop
 μ-loop target t n₀ a₀ n a = n

@@ -6,29 +6,8 @@ use Rattle.wellformed.proofs.settings_ok.Tie as tie
 shared-slice-read-result : tie.Need-shared-slice-read-result
 shared-slice-read-result c = search needs
 
-shared-slice-read-result-2 : tie.Need-shared-slice-read-result-2
-shared-slice-read-result-2 c = search needs
-
-shared-slice-read-inside : tie.Need-shared-slice-read-inside
-shared-slice-read-inside c = search needs
-
-inside-requires : tie.Need-inside-requires
-inside-requires c κs = search needs
-
-shared-slice-read-result-3 : tie.Need-shared-slice-read-result-3
-shared-slice-read-result-3 c = search needs
-
-shared-slice-read-result-4 : tie.Need-shared-slice-read-result-4
-shared-slice-read-result-4 c = search needs
-
-shared-slice-read-inside-2 : tie.Need-shared-slice-read-inside-2
-shared-slice-read-inside-2 c = search needs
-
-inside-requires-2 : tie.Need-inside-requires-2
-inside-requires-2 c κs = search needs
-
-shared-slice-read-result-5 : tie.Need-shared-slice-read-result-5
-shared-slice-read-result-5 c = search needs
+numbers-ok-requires : tie.Need-numbers-ok-requires
+numbers-ok-requires c κs = search needs
 
 sub-all-zero : tie.Need-sub-all-zero
 sub-all-zero c = search needs
@@ -51,14 +30,7 @@ settings-ok-spec =
     tie.close
     (tie.spec
     shared-slice-read-result
-    shared-slice-read-result-2
-    shared-slice-read-inside
-    inside-requires
-    shared-slice-read-result-3
-    shared-slice-read-result-4
-    shared-slice-read-inside-2
-    inside-requires-2
-    shared-slice-read-result-5
+    numbers-ok-requires
     sub-all-zero
     part-all-zero-start
     part-all-zero-end

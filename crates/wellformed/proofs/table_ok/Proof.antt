@@ -4,25 +4,22 @@ use native.Mathlib.Omega.{arith}
 use borrow.Author.Needs.{needs}
 use borrow.Author.Tests.{not-true, not-false}
 use lib.ListN.{length, drop}
-use Rattle.wellformed.specs.Check.{rowOk, risesOf, widthOf, rowsOk, sectionOk}
+use Rattle.wellformed.specs.Check.{rowOk, rises, inPairs, widthOf, rowsOk, kindOk}
 use Rattle.wellformed.proofs.Turns.{table-many, table-start, table-end, table-fails, table-room, table-more}
 use Rattle.wellformed.proofs.table_ok.Statement.{statement}
 use Rattle.wellformed.proofs.table_ok.Tie as tie
 
 abbrev Inv-loop : tie.InvT-loop
-Inv-loop k cap t w n₀ a₀ n a = (a ≤ length t) × (sectionOk k cap t ≡ rowsOk (rowOk k) (risesOf k) (widthOf k) n (drop a t))
+Inv-loop k w pairs cap t n₀ a₀ n a = (a ≤ length t) × (kindOk k cap t ≡ rowsOk (rowOk k) (rises (inPairs k)) (widthOf k) n (drop a t))
 
 abbrev μ-loop : tie.MeasureT-loop
-μ-loop k cap t w n₀ a₀ n a = n
-
-width-requires : tie.Need-width-requires Inv-loop μ-loop
-width-requires c κs = search needs
+μ-loop k w pairs cap t n₀ a₀ n a = n
 
 shared-slice-read-n : tie.Need-shared-slice-read-n Inv-loop μ-loop
 shared-slice-read-n c = search needs
 
 returns : tie.Need-returns Inv-loop μ-loop
-returns c = table-many _ _ _ _ (c .before .before .before .before .args .t .now) (c .if1 .taken)
+returns c = table-many _ _ _ _ (c .before .before .before .args .t .now) (c .if1 .taken)
 
 loop-holds : tie.Need-loop-holds Inv-loop μ-loop
 loop-holds c = (omega arith, table-start _ _ _ _ _ (c .if1 .left))
@@ -40,13 +37,13 @@ part-first-ok-end : tie.Need-part-first-ok-end Inv-loop μ-loop
 part-first-ok-end c = search needs
 
 first-ok-requires : tie.Need-first-ok-requires Inv-loop μ-loop
-first-ok-requires c κs = search needs
+first-ok-requires c κs = c .before .before .before .before .before .before .pre .1
 
 returns-2 : tie.Need-returns-2 Inv-loop μ-loop
 returns-2 c = table-fails _ _ _ _ _ _ _ 0 _ (c .before .before .before .before .loop .inv .1) (c .before .before .before .loop-test .taken) (c .before .first-ok .ensures) (not-true _ (c .if2 .taken))
 
 add-a : tie.Need-add-a Inv-loop μ-loop
-add-a c = let r = table-room _ _ _ _ _ _ _ (c .before .before .before .before .before .before .before .width .result) _ (c .before .before .before .before .loop .inv .1) (c .before .before .before .loop-test .taken) (c .before .first-ok .ensures) (c .before .before .before .before .loop .inv .0) (c .before .before .before .before .before .before .before .width .ensures) (not-false _ (c .if2 .left)) in omega (arith, r)
+add-a c = let r = table-room _ _ _ _ _ _ _ _ _ (c .before .before .before .before .loop .inv .1) (c .before .before .before .loop-test .taken) (c .before .first-ok .ensures) (c .before .before .before .before .loop .inv .0) (c .before .before .before .before .before .before .before .before .pre .1 .wide) (not-false _ (c .if2 .left)) in omega (arith, r)
 
 sub-n : tie.Need-sub-n Inv-loop μ-loop
 sub-n c = search needs
@@ -56,8 +53,8 @@ loop-less c = search needs
 
 loop-again : tie.Need-loop-again Inv-loop μ-loop
 loop-again c = (
-  table-room _ _ _ _ _ _ _ _ _ (c .before .before .before .before .loop .inv .1) (c .before .before .before .loop-test .taken) (c .before .first-ok .ensures) (c .before .before .before .before .loop .inv .0) (c .before .before .before .before .before .before .before .width .ensures) (not-false _ (c .if2 .left)),
-  table-more _ _ _ _ _ _ _ _ _ (c .before .before .before .before .loop .inv .1) (c .before .before .before .loop-test .taken) (c .before .first-ok .ensures) (c .before .before .before .before .before .before .before .width .ensures) (not-false _ (c .if2 .left)),
+  table-room _ _ _ _ _ _ _ _ _ (c .before .before .before .before .loop .inv .1) (c .before .before .before .loop-test .taken) (c .before .first-ok .ensures) (c .before .before .before .before .loop .inv .0) (c .before .before .before .before .before .before .before .before .pre .1 .wide) (not-false _ (c .if2 .left)),
+  table-more _ _ _ _ _ _ _ _ _ (c .before .before .before .before .loop .inv .1) (c .before .before .before .loop-test .taken) (c .before .first-ok .ensures) (c .before .before .before .before .before .before .before .before .pre .1 .wide) (not-false _ (c .if2 .left)),
 )
 
 mul-all-zero : tie.Need-mul-all-zero Inv-loop μ-loop
@@ -84,7 +81,6 @@ table-ok-spec =
     (tie.spec
     Inv-loop
     μ-loop
-    width-requires
     shared-slice-read-n
     returns
     loop-holds

@@ -1,7 +1,7 @@
-use Rattle.wellformed.specs.Check.{headOk, allPass}
+use Rattle.wellformed.specs.Check.{epochsOk, allPass}
 use borrow.Author.Needs.{needs}
-use Rattle.wellformed.proofs.head_ok.Statement.{statement}
-use Rattle.wellformed.proofs.head_ok.Tie as tie
+use Rattle.wellformed.proofs.epochs_ok.Statement.{statement}
+use Rattle.wellformed.proofs.epochs_ok.Tie as tie
 
 shared-slice-read-inside : tie.Need-shared-slice-read-inside
 shared-slice-read-inside c = search needs
@@ -11,9 +11,6 @@ inside-requires c κs = search needs
 
 shared-slice-read-result : tie.Need-shared-slice-read-result
 shared-slice-read-result c = search needs
-
-shared-slice-read-result-2 : tie.Need-shared-slice-read-result-2
-shared-slice-read-result-2 c = search needs
 
 shared-slice-read-option-ok : tie.Need-shared-slice-read-option-ok
 shared-slice-read-option-ok c = search needs
@@ -33,34 +30,21 @@ shared-slice-read-option-ok-4 c = search needs
 option-ok-requires-2 : tie.Need-option-ok-requires-2
 option-ok-requires-2 c κs = search needs
 
-shared-slice-read-result-3 : tie.Need-shared-slice-read-result-3
-shared-slice-read-result-3 c = search needs
-
-shared-slice-read-result-4 : tie.Need-shared-slice-read-result-4
-shared-slice-read-result-4 c = search needs
-
-shared-slice-read-result-5 : tie.Need-shared-slice-read-result-5
-shared-slice-read-result-5 c = search needs
-
 returns : tie.Need-returns
-unfolding headOk allPass
+unfolding epochsOk allPass
 returns c = cc
 
-pub head-ok-spec : {M : Type 1} → statement M
-head-ok-spec =
+pub epochs-ok-spec : {M : Type 1} → statement M
+epochs-ok-spec =
     tie.close
     (tie.spec
     shared-slice-read-inside
     inside-requires
     shared-slice-read-result
-    shared-slice-read-result-2
     shared-slice-read-option-ok
     shared-slice-read-option-ok-2
     option-ok-requires
     shared-slice-read-option-ok-3
     shared-slice-read-option-ok-4
     option-ok-requires-2
-    shared-slice-read-result-3
-    shared-slice-read-result-4
-    shared-slice-read-result-5
     returns)
