@@ -8,7 +8,7 @@ use board::layout::RIGHT_AT;
 use types::ValidatorId;
 ghost use mathlib.Core.Path.{_≡_};
 ghost use mathlib.Core.List.{[], _∷_, _++_};
-ghost use Prim.Native.Nat.{_<_, _≤_};
+ghost use Prim.Native.Nat.{_<_};
 ghost use lib.ListN.{length, getD};
 ghost use Rattle.rules.specs.Board.{Board, mostReshapes, mostHalf, onReshapes};
 ghost use Rattle.board.specs.Layout.{boardSize};

@@ -15,7 +15,6 @@ ghost use Rattle.rules.specs.Table.{Entry, Table};
 ghost use Rattle.rules.specs.Board as rules;
 ghost use Rattle.rules.specs.Board.{Board, mostReshapes, mostSeats, onReshapes};
 ghost use Rattle.rules.specs.Moves.{withSeats};
-ghost use Rattle.rules.specs.Reshapes.{readySeat};
 ghost use Rattle.rules.specs.Snapshot.{seatWords};
 ghost use Rattle.tables.specs.Rows.{Rising, keyOf, placeOf, insertAt, removeAt};
 ghost use Rattle.board.specs.Layout.{boardSize, seatWidth, seatTable};

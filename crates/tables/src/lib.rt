@@ -4,7 +4,7 @@ ghost use mathlib.Core.List.{List, [], _∷_, _++_};
 ghost use Prim.Native.Nat.{ℕ, _+_, _*_, _-_, _<_, _≤_};
 ghost use mathlib.Core.Bool.{not};
 ghost use lib.Dec.{eqb};
-ghost use lib.ListN.{length, getD, set, replicate};
+ghost use lib.ListN.{length, getD, replicate};
 ghost use Rattle.rules.specs.Lists.{bitOf, has};
 ghost use Rattle.tables.specs.Rows.{table, idTable, insertAt, removeAt, Rising, placeOf, without, Row, wordsIn, keyIn};
 ghost use Rattle.tables.specs.Moved.{movedUp, movedDown};
