@@ -5,3 +5,4 @@ pub mod Decides
 pub mod Rows
 pub mod Reshapes
 pub mod Decided
+pub mod Told

@@ -118,6 +118,7 @@ fn lacking(x: u64, t: &[u64]) -> bool
     ok
 }
 
+// Each id against those after it: quadratic, and plain.
 fn all_distinct(t: &[u64]) -> bool
     ensures { λ r. ⌜ r ≡ distinct (now (t .entry)) ⌝ }
 {
@@ -132,6 +133,7 @@ fn all_distinct(t: &[u64]) -> bool
     true
 }
 
+// A count within cap, ids that differ, and zeros after them.
 fn ids_ok(cap: usize, t: &[u64]) -> bool
     requires { ⌜ length (now t) ≡ 1 + cap ⌝ }
     ensures { λ r. ⌜ r ≡ idsOk cap (now (t .entry)) ⌝ }
@@ -162,6 +164,7 @@ fn rises(pairs: bool, s: &[u64], t: &[u64]) -> bool
 
 // ---- Rows
 
+// A place's words are of one case: its code, its mark from low to high, ready and stamp at most r and s.
 fn case_ok(
     code: u64,
     mark: u64,
@@ -194,6 +197,7 @@ fn machine_ok(t: &[u64]) -> bool
         | case_ok(c, m, r, s, 4, 1, LAST_MARK, 0, 0)
 }
 
+// The shard, then the members.
 fn committee_ok(t: &[u64]) -> bool
     requires { ⌜ length (now t) ≡ committeeWidth ⌝ }
     ensures { λ r. ⌜ r ≡ committeeOk (now (t .entry)) ⌝ }
@@ -208,6 +212,7 @@ fn option_ok(f: u64, v: u64) -> bool
     ((f == 0) & (v == 0)) | ((f == 1) & (v <= LAST_STAMP))
 }
 
+// Shard, height, formed, last live, then terminal and admitted, each a flag and an epoch; a height is any word.
 fn boundary_ok(t: &[u64]) -> bool
     requires { ⌜ length (now t) ≡ boundaryWidth ⌝ }
     ensures { λ r. ⌜ r ≡ boundaryOk (now (t .entry)) ⌝ }
@@ -219,6 +224,7 @@ fn boundary_ok(t: &[u64]) -> bool
         & option_ok(t[6], t[7])
 }
 
+// Shard, victim, entrant, opened; an id is any word.
 fn rotation_ok(t: &[u64]) -> bool
     requires { ⌜ length (now t) ≡ rotationWidth ⌝ }
     ensures { λ r. ⌜ r ≡ rotationOk (now (t .entry)) ⌝ }
@@ -228,7 +234,7 @@ fn rotation_ok(t: &[u64]) -> bool
 
 // ---- Reshapes
 
-// Halved, and not doubled: the target may be any number yet.
+// Id, child, ready. The child is halved, and the target not doubled: it may be any number yet.
 fn seat_ok(target: u64, t: &[u64]) -> bool
     requires { ⌜ length (now t) ≡ seatWidth ⌝ }
     ensures { λ r. ⌜ r ≡ seatOk target (now (t .entry)) ⌝ }
@@ -303,7 +309,7 @@ fn reshape_ok(t: &[u64]) -> bool
 
 // ---- A table of any kind of rows
 
-pub enum RowKind {
+enum RowKind {
     Machines,
     Committees,
     Boundaries,
