@@ -186,15 +186,15 @@ fn machine_ok(t: &[u64]) -> bool
     requires { ⌜ length (now t) ≡ machineWidth ⌝ }
     ensures { λ r. ⌜ r ≡ machineOk (now (t .entry)) ⌝ }
 {
-    let c = t[1];
-    let m = t[2];
-    let r = t[3];
-    let s = t[4];
-    case_ok(c, m, r, s, 0, 0, 0, 0, 0)
-        | case_ok(c, m, r, s, 1, 1, LAST_SHARD, 1, LAST_STAMP)
-        | case_ok(c, m, r, s, 2, 1, LAST_SHARD, 0, LAST_STAMP)
-        | case_ok(c, m, r, s, 3, 0, 0, 0, 0)
-        | case_ok(c, m, r, s, 4, 1, LAST_MARK, 0, 0)
+    let code = t[1];
+    let mark = t[2];
+    let ready = t[3];
+    let stamp = t[4];
+    case_ok(code, mark, ready, stamp, 0, 0, 0, 0, 0)
+        | case_ok(code, mark, ready, stamp, 1, 1, LAST_SHARD, 1, LAST_STAMP)
+        | case_ok(code, mark, ready, stamp, 2, 1, LAST_SHARD, 0, LAST_STAMP)
+        | case_ok(code, mark, ready, stamp, 3, 0, 0, 0, 0)
+        | case_ok(code, mark, ready, stamp, 4, 1, LAST_MARK, 0, 0)
 }
 
 // The shard, then the members.
@@ -251,7 +251,7 @@ fn first_seat_ok(target: u64, n: usize, t: &[u64]) -> bool
     seat_ok(target, &t[..SEAT_WIDTH]) & ((n == 1) | rises(false, t, &t[SEAT_WIDTH..]))
 }
 
-// As `table_ok`, which calls it through `reshape_ok`.
+// A loop of its own: `table_ok` comes here through `reshape_ok`, and nothing recurs.
 fn seats_ok(target: u64, t: &[u64]) -> bool
     requires { ⌜ 1 ≤ length (now t) ⌝ }
     ensures { λ r. ⌜ r ≡ seatsOk target (now (t .entry)) ⌝ }

@@ -3,17 +3,17 @@ use borrow.Author.Needs.{needs}
 use Rattle.wellformed.proofs.machine_ok.Statement.{statement}
 use Rattle.wellformed.proofs.machine_ok.Tie as tie
 
-shared-slice-read-c : tie.Need-shared-slice-read-c
-shared-slice-read-c c = search needs
+shared-slice-read-code : tie.Need-shared-slice-read-code
+shared-slice-read-code c = search needs
 
-shared-slice-read-m : tie.Need-shared-slice-read-m
-shared-slice-read-m c = search needs
+shared-slice-read-mark : tie.Need-shared-slice-read-mark
+shared-slice-read-mark c = search needs
 
-shared-slice-read-r : tie.Need-shared-slice-read-r
-shared-slice-read-r c = search needs
+shared-slice-read-ready : tie.Need-shared-slice-read-ready
+shared-slice-read-ready c = search needs
 
-shared-slice-read-s : tie.Need-shared-slice-read-s
-shared-slice-read-s c = search needs
+shared-slice-read-stamp : tie.Need-shared-slice-read-stamp
+shared-slice-read-stamp c = search needs
 
 case-ok-requires : tie.Need-case-ok-requires
 case-ok-requires c κs = search needs
@@ -38,10 +38,10 @@ pub machine-ok-spec : {M : Type 1} → statement M
 machine-ok-spec =
     tie.close
     (tie.spec
-    shared-slice-read-c
-    shared-slice-read-m
-    shared-slice-read-r
-    shared-slice-read-s
+    shared-slice-read-code
+    shared-slice-read-mark
+    shared-slice-read-ready
+    shared-slice-read-stamp
     case-ok-requires
     case-ok-requires-2
     case-ok-requires-3
