@@ -14,9 +14,13 @@ ghost use mathlib.Core.List.{[], _∷_};
 ghost use mathlib.Core.Bool.{true};
 ghost use Prim.Native.Nat.{_<_, _≤_};
 ghost use lib.ListN.{length, getD};
-ghost use Rattle.rules.specs.Board.{Board, mostMachines, mostCommittees};
-ghost use Rattle.rules.specs.Moves.{poolOf, place};
-ghost use Rattle.tables.specs.Rows.{Rising, keyOf};
+ghost use Rattle.rules.specs.Board.{Board, mostMachines, mostCommittees, epochOf};
+ghost use Rattle.types.specs.Places.{drawnTo};
+ghost use Rattle.rules.specs.WellFormed.{wellFormed};
+ghost use Rattle.rules.specs.Table.{stands};
+ghost use Rattle.rules.specs.Moves as moves;
+ghost use Rattle.rules.specs.Moves.{poolOf, place, mayJoin, putOn};
+ghost use Rattle.tables.specs.Rows.{Rising, keyOf, placeOf};
 ghost use Rattle.board.specs.Layout.{boardSize};
 ghost use Rattle.board.specs.Held.{Holds, noMachine};
 ghost use Rattle.pool.specs.Ranks.{HasRank};
@@ -80,4 +84,67 @@ pub fn put_place(ws: &mut [u64], i: usize, p: Place)
     let m = machines::at(ws, i);
     let id = m.id;
     machines::put(ws, i, Machine { id: id, place: p });
+}
+
+// ---- onto a shard
+
+// Whether the committee at a shard's place is the shard's own.
+fn stands_at(ws: &[u64], j: usize, shard: ShardId) -> bool
+    requires { ⌜ length (now ws) ≡ boardSize ⌝ }
+    ensures { λ r. ⌜ (r ≡ true → j < mostCommittees) × ((b : Board) → Holds (now (ws .entry)) b → Rising keyOf (b .committees) → j ≡ placeOf keyOf (shard .0) (b .committees) →
+        r ≡ stands (shard .0) (b .committees)) ⌝ }
+{
+    if MOST_COMMITTEES <= j {
+        return false;
+    }
+    if committees::count(ws) <= j {
+        return false;
+    }
+    let s = committees::shard_at(ws, j);
+    s.0 == shard.0
+}
+
+pub fn may_join(ws: &[u64], shard: ShardId, id: ValidatorId) -> bool
+    requires { ⌜ length (now ws) ≡ boardSize ⌝ }
+    ensures { λ r. ⌜ ((b : Board) → Holds (now (ws .entry)) b → Rising keyOf (b .committees) → r ≡ mayJoin (shard .0) (id .0 ∷ []) b) ⌝ }
+{
+    let j = committees::place_of(ws, shard);
+    if stands_at(ws, j, shard) {
+        if committees::has_member(ws, j, id) {
+            return false;
+        }
+        return committees::member_count(ws, j) < MOST_MEMBERS;
+    }
+    committees::count(ws) < MOST_COMMITTEES
+}
+
+// A member more, of a committee that is opened if it is missing.
+pub fn join(ws: &mut [u64], shard: ShardId, id: ValidatorId)
+    requires { ⌜ length (now ws) ≡ boardSize ⌝ }
+    ensures { λ _. ⌜ ((b : Board) → Holds (now (ws .entry)) b → Rising keyOf (b .committees) → mayJoin (shard .0) (id .0 ∷ []) b ≡ true →
+        Holds (now (ws .exit)) (moves.join (shard .0) (id .0) b)) ⌝ }
+{
+    let j = committees::place_of(ws, shard);
+    if MOST_COMMITTEES <= j {
+        return;
+    }
+    if stands_at(ws, j, shard) {
+        committees::push_member(ws, j, id);
+        return;
+    }
+    committees::open(ws, j, shard);
+    committees::push_member(ws, j, id);
+}
+
+// The machine at row i, seated on the shard: waiting, stamped now, and a member.
+pub fn seat_drawn(ws: &mut [u64], shard: ShardId, i: usize)
+    requires { ⌜ (length (now ws) ≡ boardSize) × (i < mostMachines) ⌝ }
+    ensures { λ _. ⌜ ((b : Board) → Holds (now (ws .entry)) b → wellFormed b ≡ true → i < length (b .machines) → mayJoin (shard .0) (getD (b .machines) i noMachine .key ∷ []) b ≡ true →
+        Holds (now (ws .exit)) (putOn (shard .0) (drawnTo (shard .0) (epochOf b)) (getD (b .machines) i noMachine .key) b)) ⌝ }
+{
+    let m = machines::at(ws, i);
+    let p = m.place;
+    let epoch = settings::epoch(ws);
+    put_place(ws, i, p.drawn_to(shard, epoch));
+    join(ws, shard, m.id);
 }
