@@ -5,25 +5,45 @@ use board::layout::MOST_MACHINES;
 use board::layout::MOST_MEMBERS;
 use board::machines;
 use board::settings;
+use sampling::Drawn;
+use sampling::Reader;
+use types::Answer;
 use types::Machine;
 use types::Place;
 use types::ShardId;
 use types::ValidatorId;
 ghost use mathlib.Core.Path.{_≡_};
 ghost use mathlib.Core.List.{[], _∷_};
-ghost use mathlib.Core.Bool.{true};
+ghost use mathlib.Core.Bool.{true, false};
 ghost use Prim.Native.Nat.{_<_, _≤_};
-ghost use lib.ListN.{length, getD};
+ghost use lib.ListN.{length, getD, drop};
 ghost use Rattle.rules.specs.Board.{Board, mostMachines, mostCommittees, epochOf};
 ghost use Rattle.types.specs.Places.{drawnTo};
 ghost use Rattle.rules.specs.WellFormed.{wellFormed};
 ghost use Rattle.rules.specs.Table.{stands};
 ghost use Rattle.rules.specs.Moves as moves;
 ghost use Rattle.rules.specs.Moves.{poolOf, place, mayJoin, putOn};
+ghost use Rattle.rules.specs.Draws.{drawFrom};
+ghost use Rattle.rules.specs.Turns.{poolDraw};
 ghost use Rattle.tables.specs.Rows.{Rising, keyOf, placeOf};
 ghost use Rattle.board.specs.Layout.{boardSize};
 ghost use Rattle.board.specs.Held.{Holds, noMachine};
 ghost use Rattle.pool.specs.Ranks.{HasRank};
+ghost use Rattle.pool.specs.Told.{RowWithin, TellsDraw, TellsTurn};
+
+// Whom a draw finds: a machine's row, and the reader moved on; or why it finds none.
+pub enum Found {
+    Row(usize, Reader),
+    Nobody,
+    Missing,
+    TooLarge,
+}
+
+// How many a turn handled, and the reader moved on; or the answer that refuses it.
+pub enum Turned {
+    Done(u64, Reader),
+    Refused(Answer),
+}
 
 // How many machines there are, and no more than there is room for.
 fn rows(ws: &[u64]) -> usize
@@ -147,4 +167,48 @@ pub fn seat_drawn(ws: &mut [u64], shard: ShardId, i: usize)
     let epoch = settings::epoch(ws);
     put_place(ws, i, p.drawn_to(shard, epoch));
     join(ws, shard, m.id);
+}
+
+// ---- the draw
+
+// One draw from the pool; an empty pool takes none.
+pub fn draw(ws: &[u64], draws: &[u64], at: Reader) -> Found
+    requires { ⌜ length (now ws) ≡ boardSize ⌝ }
+    ensures { λ r. ⌜ RowWithin r × ((b : Board) → Holds (now (ws .entry)) b → TellsDraw (now (draws .entry)) b (drawFrom (poolOf b) (drop (at .at) (now (draws .entry)))) at r) ⌝ }
+{
+    let n = pool_size(ws);
+    if n == 0 {
+        return Found::Nobody;
+    }
+    let drawn = at.index(draws, (n - 1) as u64);
+    match drawn {
+        Drawn::Index(k, left) => {
+            let i = pooled_at_rank(ws, k as usize);
+            Found::Row(i, left)
+        }
+        Drawn::Missing => Found::Missing,
+        Drawn::TooLarge => Found::TooLarge,
+    }
+}
+
+// A draw from the pool onto the shard; where it is refused, every word is as before.
+pub fn pool_draw(ws: &mut [u64], shard: ShardId, draws: &[u64], at: Reader) -> Turned
+    requires { ⌜ (length (now ws) ≡ boardSize) × (at .at ≤ length (now draws)) ⌝ }
+    ensures { λ r. ⌜ ((b : Board) → Holds (now (ws .entry)) b → wellFormed b ≡ true →
+        TellsTurn (now (draws .entry)) (now (ws .exit)) b (poolDraw (shard .0) false (λ y c. c) (drop (at .at) (now (draws .entry))) b) r) ⌝ }
+{
+    let found = draw(ws, draws, at);
+    match found {
+        Found::Row(i, left) => {
+            let m = machines::at(ws, i);
+            if may_join(ws, shard, m.id) {
+                seat_drawn(ws, shard, i);
+                return Turned::Done(1, left);
+            }
+            Turned::Refused(Answer::NoRoom)
+        }
+        Found::Nobody => Turned::Done(0, at),
+        Found::Missing => Turned::Refused(Answer::DrawMissing),
+        Found::TooLarge => Turned::Refused(Answer::DrawTooLarge),
+    }
 }
