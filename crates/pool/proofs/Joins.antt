@@ -1,7 +1,6 @@
 -- A committee that takes one member more: what is asked before, and the board after, as the code has them at the shard's row.
 use Prim.Native.Nat.{ℕ, _+_, _≤_, _<_}
 use mathlib.Core.Path.{_≡_, refl, ap, sym, _∙_}
-use mathlib.Core.Logic.{⊎-elim}
 use mathlib.Core.List.{List, [], _∷_, _++_}
 use mathlib.Core.Option.{Option, none, some}
 use mathlib.Core.Bool.{Bool, true, false, true≢false, false≢true}
@@ -9,7 +8,7 @@ use native.Mathlib.Omega.{arith}
 use native.Mathlib.Numerals.{add-one}
 use borrow.Author.Tests.{ltb-true}
 use lib.Dec.{eqb, leb, ltb}
-use lib.ListN.{length, getD, set}
+use lib.ListN.{length, getD}
 use Rattle.types.specs.Numbers.{Id}
 use Rattle.rules.specs.Lists.{_and_, _or_, every, any, has}
 use Rattle.rules.specs.Table.{Entry, entry, Table, isSome, at, stands, put}

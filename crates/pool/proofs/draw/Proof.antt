@@ -1,9 +1,5 @@
-use Prim.Native.Nat.{ℕ, _-_}
-use mathlib.Core.Path.{ap, sym, _∙_}
-use mathlib.Core.Option.{some}
 use native.Mathlib.Omega.{arith}
-use lib.ListN.{drop}
-use Rattle.rules.specs.Draws.{drew, andThen, drawIndex}
+use Rattle.rules.specs.Draws.{andThen}
 use Rattle.rules.specs.Moves.{poolOf}
 use Rattle.pool.proofs.Draws.{index-missing, index-large, index-drew, from-none, from-some}
 use borrow.Author.Needs.{needs}
@@ -25,7 +21,7 @@ returns-2 c = (
       record {
         within = k .within;
         read = x .within;
-        drawn = from-some _ (poolOf b) _ n (c .before .before .before .before .before .if1 .left) _ (x .drew) ∙ ap (λ (y : ℕ). drew (some y) (drop (c .before .before .drawn .given .0 .1 .0 .at) (a .draws .now))) (sym (k .id));
+        drawn = rw (k .id) (from-some _ (poolOf b) _ n (c .before .before .before .before .before .if1 .left) _ (x .drew));
       },
 )
 

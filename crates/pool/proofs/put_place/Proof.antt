@@ -1,4 +1,3 @@
-use Prim.Native.Nat.{ℕ}
 use mathlib.Core.Path.{ap}
 use Rattle.types.specs.declared.Machine.{Machine}
 use Rattle.pool.proofs.Placed.{placed}
