@@ -1,0 +1,214 @@
+// The pool: the machines that wait for a seat, and a draw that seats one of them.
+use board::committees;
+use board::layout::MOST_COMMITTEES;
+use board::layout::MOST_MACHINES;
+use board::layout::MOST_MEMBERS;
+use board::machines;
+use board::settings;
+use sampling::Drawn;
+use sampling::Reader;
+use types::Answer;
+use types::Machine;
+use types::Place;
+use types::ShardId;
+use types::ValidatorId;
+ghost use mathlib.Core.Path.{_≡_};
+ghost use mathlib.Core.List.{[], _∷_};
+ghost use mathlib.Core.Bool.{true, false};
+ghost use Prim.Native.Nat.{_<_, _≤_};
+ghost use lib.ListN.{length, getD, drop};
+ghost use Rattle.rules.specs.Board.{Board, mostMachines, mostCommittees, epochOf};
+ghost use Rattle.types.specs.Places.{drawnTo};
+ghost use Rattle.rules.specs.WellFormed.{wellFormed};
+ghost use Rattle.rules.specs.Table.{stands};
+ghost use Rattle.rules.specs.Moves as moves;
+ghost use Rattle.rules.specs.Moves.{poolOf, place, mayJoin, putOn};
+ghost use Rattle.rules.specs.Draws.{drawFrom};
+ghost use Rattle.rules.specs.Turns.{poolDraw};
+ghost use Rattle.tables.specs.Rows.{Rising, keyOf, placeOf};
+ghost use Rattle.board.specs.Layout.{boardSize};
+ghost use Rattle.board.specs.Held.{Holds, noMachine};
+ghost use Rattle.pool.specs.Ranks.{HasRank};
+ghost use Rattle.pool.specs.Told.{RowWithin, TellsDraw, TellsTurn};
+
+// Whom a draw finds: a machine's row, and the reader moved on; or why it finds none.
+pub enum Found {
+    Row(usize, Reader),
+    Nobody,
+    Missing,
+    TooLarge,
+}
+
+// How many a turn handled, and the reader moved on; or the answer that refuses it.
+pub enum Turned {
+    Done(u64, Reader),
+    Refused(Answer),
+}
+
+// How many machines there are, and no more than there is room for.
+fn rows(ws: &[u64]) -> usize
+    requires { ⌜ length (now ws) ≡ boardSize ⌝ }
+    ensures { λ r. ⌜ (r ≤ mostMachines) × ((b : Board) → Holds (now (ws .entry)) b → r ≡ length (b .machines)) ⌝ }
+{
+    let n = machines::count(ws);
+    if MOST_MACHINES < n {
+        return MOST_MACHINES;
+    }
+    n
+}
+
+pub fn pool_size(ws: &[u64]) -> usize
+    requires { ⌜ length (now ws) ≡ boardSize ⌝ }
+    ensures { λ r. ⌜ (r ≤ mostMachines) × ((b : Board) → Holds (now (ws .entry)) b → r ≡ length (poolOf b)) ⌝ }
+{
+    let n = rows(ws);
+    let mut k: usize = 0;
+    let mut i: usize = 0;
+    while i < n {
+        let m = machines::at(ws, i);
+        let p = m.place;
+        k += machines::bit(p.is_pooled()) as usize;
+        i += 1;
+    }
+    k
+}
+
+// The row of the machine with rank k in the pool; row 0 where the pool has no such rank.
+pub fn pooled_at_rank(ws: &[u64], k: usize) -> usize
+    requires { ⌜ length (now ws) ≡ boardSize ⌝ }
+    ensures { λ r. ⌜ (r < mostMachines) × ((b : Board) → Holds (now (ws .entry)) b → k < length (poolOf b) → HasRank k r b) ⌝ }
+{
+    let n = rows(ws);
+    let mut left = k;
+    let mut i: usize = 0;
+    while i < n {
+        let m = machines::at(ws, i);
+        let p = m.place;
+        if p.is_pooled() {
+            if left == 0 {
+                return i;
+            }
+            left -= 1;
+        }
+        i += 1;
+    }
+    0
+}
+
+// The place of the machine at row i is replaced.
+pub fn put_place(ws: &mut [u64], i: usize, p: Place)
+    requires { ⌜ (length (now ws) ≡ boardSize) × (i < mostMachines) ⌝ }
+    ensures { λ _. ⌜ ((b : Board) → Holds (now (ws .entry)) b → Rising keyOf (b .machines) → i < length (b .machines) →
+        Holds (now (ws .exit)) (place (getD (b .machines) i noMachine .key) (λ q. p) b)) ⌝ }
+{
+    let m = machines::at(ws, i);
+    let id = m.id;
+    machines::put(ws, i, Machine { id: id, place: p });
+}
+
+// ---- onto a shard
+
+// Whether the committee at a shard's place is the shard's own.
+fn stands_at(ws: &[u64], j: usize, shard: ShardId) -> bool
+    requires { ⌜ length (now ws) ≡ boardSize ⌝ }
+    ensures { λ r. ⌜ (r ≡ true → j < mostCommittees) × ((b : Board) → Holds (now (ws .entry)) b → Rising keyOf (b .committees) → j ≡ placeOf keyOf (shard .0) (b .committees) →
+        r ≡ stands (shard .0) (b .committees)) ⌝ }
+{
+    if MOST_COMMITTEES <= j {
+        return false;
+    }
+    if committees::count(ws) <= j {
+        return false;
+    }
+    let s = committees::shard_at(ws, j);
+    s.0 == shard.0
+}
+
+pub fn may_join(ws: &[u64], shard: ShardId, id: ValidatorId) -> bool
+    requires { ⌜ length (now ws) ≡ boardSize ⌝ }
+    ensures { λ r. ⌜ ((b : Board) → Holds (now (ws .entry)) b → Rising keyOf (b .committees) → r ≡ mayJoin (shard .0) (id .0 ∷ []) b) ⌝ }
+{
+    let j = committees::place_of(ws, shard);
+    if stands_at(ws, j, shard) {
+        if committees::has_member(ws, j, id) {
+            return false;
+        }
+        return committees::member_count(ws, j) < MOST_MEMBERS;
+    }
+    committees::count(ws) < MOST_COMMITTEES
+}
+
+// A member more, of a committee that is opened if it is missing.
+pub fn join(ws: &mut [u64], shard: ShardId, id: ValidatorId)
+    requires { ⌜ length (now ws) ≡ boardSize ⌝ }
+    ensures { λ _. ⌜ ((b : Board) → Holds (now (ws .entry)) b → Rising keyOf (b .committees) → mayJoin (shard .0) (id .0 ∷ []) b ≡ true →
+        Holds (now (ws .exit)) (moves.join (shard .0) (id .0) b)) ⌝ }
+{
+    let j = committees::place_of(ws, shard);
+    if MOST_COMMITTEES <= j {
+        return;
+    }
+    if stands_at(ws, j, shard) {
+        committees::push_member(ws, j, id);
+        return;
+    }
+    committees::open(ws, j, shard);
+    committees::push_member(ws, j, id);
+}
+
+// The machine at row i, seated on the shard: waiting, stamped now, and a member.
+pub fn seat_drawn(ws: &mut [u64], shard: ShardId, i: usize)
+    requires { ⌜ (length (now ws) ≡ boardSize) × (i < mostMachines) ⌝ }
+    ensures { λ _. ⌜ ((b : Board) → Holds (now (ws .entry)) b → wellFormed b ≡ true → i < length (b .machines) → mayJoin (shard .0) (getD (b .machines) i noMachine .key ∷ []) b ≡ true →
+        Holds (now (ws .exit)) (putOn (shard .0) (drawnTo (shard .0) (epochOf b)) (getD (b .machines) i noMachine .key) b)) ⌝ }
+{
+    let m = machines::at(ws, i);
+    let p = m.place;
+    let epoch = settings::epoch(ws);
+    put_place(ws, i, p.drawn_to(shard, epoch));
+    join(ws, shard, m.id);
+}
+
+// ---- the draw
+
+// One draw from the pool; an empty pool takes none.
+pub fn draw(ws: &[u64], draws: &[u64], at: Reader) -> Found
+    requires { ⌜ length (now ws) ≡ boardSize ⌝ }
+    ensures { λ r. ⌜ RowWithin r × ((b : Board) → Holds (now (ws .entry)) b → TellsDraw (now (draws .entry)) b (drawFrom (poolOf b) (drop (at .at) (now (draws .entry)))) at r) ⌝ }
+{
+    let n = pool_size(ws);
+    if n == 0 {
+        return Found::Nobody;
+    }
+    let drawn = at.index(draws, (n - 1) as u64);
+    match drawn {
+        Drawn::Index(k, left) => {
+            let i = pooled_at_rank(ws, k as usize);
+            Found::Row(i, left)
+        }
+        Drawn::Missing => Found::Missing,
+        Drawn::TooLarge => Found::TooLarge,
+    }
+}
+
+// A draw from the pool onto the shard; where it is refused, every word is as before.
+pub fn pool_draw(ws: &mut [u64], shard: ShardId, draws: &[u64], at: Reader) -> Turned
+    requires { ⌜ (length (now ws) ≡ boardSize) × (at .at ≤ length (now draws)) ⌝ }
+    ensures { λ r. ⌜ ((b : Board) → Holds (now (ws .entry)) b → wellFormed b ≡ true →
+        TellsTurn (now (draws .entry)) (now (ws .exit)) b (poolDraw (shard .0) false (λ y c. c) (drop (at .at) (now (draws .entry))) b) r) ⌝ }
+{
+    let found = draw(ws, draws, at);
+    match found {
+        Found::Row(i, left) => {
+            let m = machines::at(ws, i);
+            if may_join(ws, shard, m.id) {
+                seat_drawn(ws, shard, i);
+                return Turned::Done(1, left);
+            }
+            Turned::Refused(Answer::NoRoom)
+        }
+        Found::Nobody => Turned::Done(0, at),
+        Found::Missing => Turned::Refused(Answer::DrawMissing),
+        Found::TooLarge => Turned::Refused(Answer::DrawTooLarge),
+    }
+}
