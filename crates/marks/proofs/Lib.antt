@@ -1,0 +1,3 @@
+pub mod Quiets
+pub mod Readies
+pub mod Searches
