@@ -1,0 +1,90 @@
+-- The digits of a word: one more at the end, and the value from the end.
+use Prim.Native.Nat.{ℕ, zero, suc, _+_, _-_, _*_, _/_, _%_, _^_, _≤_, _<_}
+use mathlib.Core.Path.{_≡_, refl, ap, sym, _∙_}
+use mathlib.Core.List.{List, [], _∷_, _++_, append-assoc}
+use native.Mathlib.Omega.{arith}
+use native.Mathlib.Numerals.{add-one}
+use lib.ListN.{length, getD, set, take, drop, length-append, length-drop, take-append-drop, drop-of-length-le}
+use lib.Seq.{drop-cons, length-take-le, set-at, getD-take, getD-drop}
+use Rattle.rules.specs.Snapshot.{digits, valueOfBytes}
+
+pub digits-length : (k n : ℕ) → length (digits k n) ≡ k
+unfolding digits
+digits-length zero n = refl
+digits-length (suc k) n = ap suc (digits-length k (n / 256))
+
+-- what is left of a word after k digits
+unfoldable pub after : ℕ → ℕ → ℕ
+after zero n = n
+after (suc k) n = after k (n / 256)
+
+pub after-more : (k n : ℕ) → after (k + 1) n ≡ after k n / 256
+unfolding after
+after-more zero n = refl
+after-more (suc k) n = rw add-one (sym (ap (λ (i : ℕ). after i (n / 256)) (add-one k)) ∙ after-more k (n / 256))
+
+digits-more : (k n : ℕ) → digits (suc k) n ≡ digits k n ++ (after k n % 256 ∷ [])
+unfolding digits after
+digits-more zero n = refl
+digits-more (suc k) n = ap (λ (l : List ℕ). n % 256 ∷ l) (digits-more k (n / 256))
+
+-- k digits of a word laid in bytes
+abbrev pub begun : List ℕ → ℕ → ℕ → ℕ → List ℕ
+begun out at w k = take at out ++ (digits k w ++ drop (at + k) out)
+
+pub begun-none : (out : List ℕ) (at w : ℕ) → out ≡ begun out at w 0
+unfolding digits
+begun-none out at w = let z : at + 0 ≡ at = omega arith in rw z (sym (take-append-drop at out))
+
+pub begun-more : (out o : List ℕ) (at w v k : ℕ) → o ≡ begun out at w k → v ≡ after k w → at + k < length out → set o (at + k) (v % 256) ≡ begun out at w (k + 1)
+begun-more out o at w v k e d h =
+    let a : length (take at out) ≡ at = length-take-le at out (omega arith) in
+    let l : length (take at out ++ digits k w) ≡ at + k = omega (arith, length-append (take at out) (digits k w), digits-length k w) in
+    let cut : begun out at w k ≡ (take at out ++ digits k w) ++ getD out (at + k) 0 ∷ drop (suc (at + k)) out =
+    rw (drop-cons out (at + k) 0 h) (sym (append-assoc (take at out) (digits k w) _)) in
+    let n : at + suc k ≡ suc (at + k) = omega arith in
+    rw (e, cut, d) (set-at (take at out ++ digits k w) _ _ (after k w % 256) (at + k) l ∙ rw (add-one, digits-more k w, n) (simp append-assoc))
+
+-- ---- the value
+
+pub value-below : (n : ℕ) (l : List ℕ) → length l ≤ n → ((i : ℕ) → getD l i 0 < 256) → valueOfBytes l < 256 ^ n
+unfolding valueOfBytes
+value-below zero [] h b = omega arith
+value-below (suc n) [] h b = omega (arith, value-below n [] (omega arith) b)
+value-below zero (x ∷ l) h b = absurd (omega arith)
+value-below (suc n) (x ∷ l) h b = omega (arith, b 0, value-below n l (omega arith) (λ i. b (suc i)))
+
+part-below : (n : ℕ) (l : List ℕ) → ((i : ℕ) → getD l i 0 < 256) → (i : ℕ) → getD (take n l) i 0 < 256
+part-below zero l b i = omega arith
+part-below (suc n) [] b i = omega arith
+part-below (suc n) (x ∷ l) b zero = b 0
+part-below (suc n) (x ∷ l) b (suc i) = part-below n l (λ j. b (suc j)) i
+
+-- the value of a word's bytes from k on, where they stand at a place
+abbrev pub ending : List ℕ → ℕ → ℕ → ℕ
+ending bytes at k = valueOfBytes (drop k (take 8 (drop at bytes)))
+
+pub ending-none : (bytes : List ℕ) (at : ℕ) → at + 8 ≤ length bytes → 0 ≡ ending bytes at 8
+unfolding valueOfBytes
+ending-none bytes at h =
+    let l : length (take 8 (drop at bytes)) ≡ 8 = length-take-le 8 (drop at bytes) (omega (arith, length-drop at bytes)) in
+    let g : length (take 8 (drop at bytes)) ≤ 8 = omega arith in
+    rw drop-of-length-le
+
+pub ending-small : (bytes : List ℕ) (at k v : ℕ) → v ≡ ending bytes at k → 0 < k → at + 8 ≤ length bytes → ((i : ℕ) → getD bytes i 0 < 256) → v < 256 ^ 7
+ending-small bytes at k v e z h b =
+    let l : length (take 8 (drop at bytes)) ≡ 8 = length-take-le 8 (drop at bytes) (omega (arith, length-drop at bytes)) in
+    rw e
+    (value-below 7 (drop k (take 8 (drop at bytes))) (omega (arith, length-drop k (take 8 (drop at bytes))))
+    (λ i. rw (getD-drop k (take 8 (drop at bytes)) i 0) (part-below 8 (drop at bytes) (λ j. rw (getD-drop at bytes j 0) (b (at + j))) (k + i))))
+
+value-more : (l : List ℕ) (j : ℕ) → j < length l → valueOfBytes (drop j l) ≡ getD l j 0 + 256 * valueOfBytes (drop (suc j) l)
+unfolding valueOfBytes
+value-more l j h = ap valueOfBytes (drop-cons l j 0 h)
+
+pub ending-more : (bytes : List ℕ) (at k v x : ℕ) → v ≡ ending bytes at k → 0 < k → k ≤ 8 → at + 8 ≤ length bytes → x ≡ getD bytes (at + (k - 1)) 0 → x + 256 * v ≡ ending bytes at (k - 1)
+ending-more bytes at k v x e z m h g =
+    let l : length (take 8 (drop at bytes)) ≡ 8 = length-take-le 8 (drop at bytes) (omega (arith, length-drop at bytes)) in
+    let n : suc (k - 1) ≡ k = omega arith in
+    let f : getD (take 8 (drop at bytes)) (k - 1) 0 ≡ x = getD-take 8 (drop at bytes) (k - 1) 0 (omega arith) ∙ getD-drop at bytes (k - 1) 0 ∙ sym g in
+    omega (arith, value-more (take 8 (drop at bytes)) (k - 1) (omega arith), ap (λ (i : ℕ). ending bytes at i) n)
