@@ -13,6 +13,8 @@ pub const INTERVAL: usize = 5;
 
 pub const MOST: usize = 6;
 
+pub const SETTINGS_END: usize = 1 + MOST;
+
 pub const MOST_MACHINES: usize = 256;
 
 pub const MACHINE_WIDTH: usize = 5;

@@ -1,66 +1,37 @@
 // A board's snapshot: its words without the room past each count, as bytes.
+use board::layout::BOARD_SIZE;
+use board::layout::BOUNDARY_WIDTH;
+use board::layout::BOUNDS_AT;
+use board::layout::COMMITTEES_AT;
+use board::layout::COMMITTEE_WIDTH;
+use board::layout::LEFT_AT;
+use board::layout::MACHINES_AT;
+use board::layout::MACHINE_WIDTH;
+use board::layout::MEMBERS_AT;
+use board::layout::MOST_BOUNDS;
+use board::layout::MOST_COMMITTEES;
+use board::layout::MOST_HALF;
+use board::layout::MOST_MACHINES;
+use board::layout::MOST_MEMBERS;
+use board::layout::MOST_RESHAPES;
+use board::layout::MOST_ROTATIONS;
+use board::layout::MOST_SEATS;
+use board::layout::RESHAPES_AT;
+use board::layout::RESHAPE_WIDTH;
+use board::layout::RIGHT_AT;
+use board::layout::ROTATIONS_AT;
+use board::layout::ROTATION_WIDTH;
+use board::layout::SEATS_AT;
+use board::layout::SEAT_WIDTH;
+use board::layout::SETTINGS_END;
+use bytes_words::put_words;
+use types::Answer;
 ghost use mathlib.Core.Path.{_≡_};
 ghost use Prim.Native.Nat.{_+_, _*_, _≤_};
 ghost use lib.ListN.{length};
 ghost use Rattle.board.specs.Layout.{committeeWidth, reshapeWidth, boardSize};
 ghost use Rattle.snapshot.specs.Packed.{countOf, flat, committee, reshape, widthOf, rowOf, nested, packed};
 ghost use Rattle.snapshot.specs.Written.{Put, Written};
-use bytes_words::put_words;
-use types::Answer;
-
-// ---- The limits of rules/specs/Board.antt
-
-const MOST_MACHINES: usize = 256;
-
-const MOST_COMMITTEES: usize = 24;
-
-const MOST_MEMBERS: usize = 96;
-
-const MOST_BOUNDS: usize = 48;
-
-const MOST_ROTATIONS: usize = 48;
-
-const MOST_RESHAPES: usize = 8;
-
-const MOST_SEATS: usize = 32;
-
-const MOST_HALF: usize = 48;
-
-// ---- The layout of board/specs/Layout.antt
-
-const SETTINGS: usize = 7;
-
-const MACHINE_WIDTH: usize = 5;
-
-const MEMBERS_AT: usize = 1;
-
-const COMMITTEE_WIDTH: usize = MEMBERS_AT + 1 + MOST_MEMBERS;
-
-const BOUNDARY_WIDTH: usize = 8;
-
-const ROTATION_WIDTH: usize = 4;
-
-const SEAT_WIDTH: usize = 3;
-
-const SEATS_AT: usize = 9;
-
-const LEFT_AT: usize = SEATS_AT + 1 + MOST_SEATS * SEAT_WIDTH;
-
-const RIGHT_AT: usize = LEFT_AT + 1 + MOST_HALF;
-
-const RESHAPE_WIDTH: usize = RIGHT_AT + 1 + MOST_HALF;
-
-const MACHINES_AT: usize = 16;
-
-const COMMITTEES_AT: usize = MACHINES_AT + 1 + MOST_MACHINES * MACHINE_WIDTH;
-
-const BOUNDS_AT: usize = COMMITTEES_AT + 1 + MOST_COMMITTEES * COMMITTEE_WIDTH;
-
-const ROTATIONS_AT: usize = BOUNDS_AT + 1 + MOST_BOUNDS * BOUNDARY_WIDTH;
-
-const RESHAPES_AT: usize = ROTATIONS_AT + 1 + MOST_ROTATIONS * ROTATION_WIDTH;
-
-const BOARD_SIZE: usize = RESHAPES_AT + 1 + MOST_RESHAPES * RESHAPE_WIDTH;
 
 // ---- A table of rows without lists
 
@@ -218,14 +189,14 @@ fn packed_size(t: &[u64]) -> usize
         &t[ROTATIONS_AT..RESHAPES_AT],
     );
     let r = rows_size(Nested::Reshapes, MOST_RESHAPES, &t[RESHAPES_AT..BOARD_SIZE]);
-    SETTINGS + m + c + b + o + r
+    SETTINGS_END + m + c + b + o + r
 }
 
 fn put_board(t: &[u64], out: &mut [u8]) -> usize
     requires { ⌜ (length (now t) ≡ boardSize) × (length (packed (now t)) * 8 ≤ length (now out)) ⌝ }
     ensures { λ r. ⌜ Put (packed (now (t .entry))) 0 (now (out .entry)) (now (out .exit)) r ⌝ }
 {
-    let s = put_words(&t[0..SETTINGS], out, 0);
+    let s = put_words(&t[0..SETTINGS_END], out, 0);
     let m = put_flat(
         MACHINE_WIDTH,
         MOST_MACHINES,

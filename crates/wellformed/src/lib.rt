@@ -1,5 +1,31 @@
 // Whether lent words, of any length and content, hold a well-formed board: one pass, without copies.
 // The tests are joined by `&` and `|`, which leave no branch.
+use board::layout::BOARD_SIZE;
+use board::layout::BOUNDARY_WIDTH;
+use board::layout::BOUNDS_AT;
+use board::layout::COMMITTEES_AT;
+use board::layout::COMMITTEE_WIDTH;
+use board::layout::LEFT_AT;
+use board::layout::MACHINES_AT;
+use board::layout::MACHINE_WIDTH;
+use board::layout::MEMBERS_AT;
+use board::layout::MOST_BOUNDS;
+use board::layout::MOST_COMMITTEES;
+use board::layout::MOST_HALF;
+use board::layout::MOST_MACHINES;
+use board::layout::MOST_MEMBERS;
+use board::layout::MOST_RESHAPES;
+use board::layout::MOST_ROTATIONS;
+use board::layout::MOST_SEATS;
+use board::layout::RESHAPES_AT;
+use board::layout::RESHAPE_WIDTH;
+use board::layout::RIGHT_AT;
+use board::layout::ROTATIONS_AT;
+use board::layout::ROTATION_WIDTH;
+use board::layout::SEATS_AT;
+use board::layout::SEAT_WIDTH;
+use board::layout::SETTINGS_END;
+use board::layout::SETTINGS_ROOM;
 ghost use mathlib.Core.Path.{_≡_};
 ghost use mathlib.Core.Bool.{false, not};
 ghost use Prim.Native.Nat.{_+_, _≤_};
@@ -10,23 +36,7 @@ ghost use Rattle.board.specs.Layout.{machineWidth, committeeWidth, boundaryWidt
 ghost use Rattle.wellformed.specs.Tells.{Tells};
 ghost use Rattle.wellformed.specs.Check.{at, allZero, idsOk, rises, firstOk, caseOk, machineOk, committeeOk, optionOk, boundaryOk, rotationOk, seatOk, seatsOk, epochsOk, flagsOk, halvesOk, reshapeOk, rowOk, inPairs, widthOf, Shape, kindOk, numbersOk, settingsOk};
 
-// ---- The limits and ranges of rules/specs/Board.antt
-
-const MOST_MACHINES: usize = 256;
-
-const MOST_COMMITTEES: usize = 24;
-
-const MOST_MEMBERS: usize = 96;
-
-const MOST_BOUNDS: usize = 48;
-
-const MOST_ROTATIONS: usize = 48;
-
-const MOST_RESHAPES: usize = 8;
-
-const MOST_SEATS: usize = 32;
-
-const MOST_HALF: usize = 48;
+// ---- The ranges of rules/specs/Board.antt
 
 const LAST_EPOCH: u64 = 4294967295;
 
@@ -46,45 +56,7 @@ const LEAST_SIZE: u64 = 4;
 
 const MOST_SIZE: u64 = 32;
 
-// ---- The layout of board/specs/Layout.antt
-
 const SETTINGS_COUNT: u64 = 6;
-
-const SETTINGS_END: usize = 7;
-
-const SETTINGS_ROOM: usize = 15;
-
-const MACHINE_WIDTH: usize = 5;
-
-const MEMBERS_AT: usize = 1;
-
-const COMMITTEE_WIDTH: usize = MEMBERS_AT + 1 + MOST_MEMBERS;
-
-const BOUNDARY_WIDTH: usize = 8;
-
-const ROTATION_WIDTH: usize = 4;
-
-const SEAT_WIDTH: usize = 3;
-
-const SEATS_AT: usize = 9;
-
-const LEFT_AT: usize = SEATS_AT + 1 + MOST_SEATS * SEAT_WIDTH;
-
-const RIGHT_AT: usize = LEFT_AT + 1 + MOST_HALF;
-
-const RESHAPE_WIDTH: usize = RIGHT_AT + 1 + MOST_HALF;
-
-const MACHINES_AT: usize = 1 + SETTINGS_ROOM;
-
-const COMMITTEES_AT: usize = MACHINES_AT + 1 + MOST_MACHINES * MACHINE_WIDTH;
-
-const BOUNDS_AT: usize = COMMITTEES_AT + 1 + MOST_COMMITTEES * COMMITTEE_WIDTH;
-
-const ROTATIONS_AT: usize = BOUNDS_AT + 1 + MOST_BOUNDS * BOUNDARY_WIDTH;
-
-const RESHAPES_AT: usize = ROTATIONS_AT + 1 + MOST_ROTATIONS * ROTATION_WIDTH;
-
-const BOARD_SIZE: usize = RESHAPES_AT + 1 + MOST_RESHAPES * RESHAPE_WIDTH;
 
 // ---- Words
 
