@@ -4,7 +4,7 @@ ghost use mathlib.Core.List.{[], _∷_};
 ghost use Prim.Native.Nat.{_+_, _*_, _<_, _≤_};
 ghost use lib.ListN.{length, take, drop};
 ghost use Rattle.rules.specs.Board.{lastWord};
-ghost use Rattle.rules.specs.Snapshot.{valueOfBytes};
+ghost use Rattle.rules.specs.Snapshot.{valueOfBytes, readWords};
 ghost use Rattle.bytes_words.specs.Laid.{laid};
 
 fn wide(x: u8) -> u64
@@ -57,6 +57,21 @@ pub fn put_words(ws: &[u64], out: &mut [u8], at: usize) -> usize
     let mut a = at;
     while i < ws.len() {
         put_word(out, a, ws[i]);
+        a += 8;
+        i += 1;
+    }
+    a
+}
+
+// Every word of `out`, and where the next byte stands.
+pub fn get_words(bytes: &[u8], at: usize, out: &mut [u64]) -> usize
+    requires { ⌜ at + length (now out) * 8 ≤ length (now bytes) ⌝ }
+    ensures { λ r. ⌜ (r ≡ at + length (now (out .entry)) * 8) × (now (out .exit) ≡ readWords (length (now (out .entry))) (drop at (now (bytes .entry)))) ⌝ }
+{
+    let mut i = 0;
+    let mut a = at;
+    while i < out.len() {
+        out[i] = word_at(bytes, a);
         a += 8;
         i += 1;
     }

@@ -4,3 +4,4 @@ pub mod Puts
 pub mod Nesteds
 pub mod Packs
 pub mod Writes
+pub mod Trips

@@ -9,7 +9,7 @@ use Rattle.rules.specs.Board.{mostMembers, mostSeats, mostHalf}
 use Rattle.board.specs.Layout.{membersAt, committeeWidth, seatWidth, seatsAt, leftAt, rightAt, reshapeWidth}
 use Rattle.snapshot.specs.declared.Nested.{Nested}
 use Rattle.snapshot.specs.declared.Nested.the-variants.{Committees, Reshapes}
-use Rattle.snapshot.specs.Packed.{between, countOf, flat, widthOf, rowOf, rowsOf, nested}
+use Rattle.snapshot.specs.Packed.{between, countOf, widthOf, rowOf, rowsOf, nested}
 use Rattle.snapshot.specs.Written.{Put}
 use Rattle.snapshot.proofs.Sizes.{between-length, flat-within, flat-most, committee-length, reshape-length}
 use Rattle.snapshot.proofs.Lefts.{Left, start, room, next, last-room, done}

@@ -1,12 +1,12 @@
 -- The packed words of a board that fits are its snapshot's words.
 use Prim.Native.Nat.{ℕ, suc, _+_, _-_, _*_, _≤_}
 use mathlib.Core.Path.{_≡_, refl, ap, sym, _∙_}
-use mathlib.Core.List.{List, [], _∷_, _++_, append-assoc, append-nil}
+use mathlib.Core.List.{List, [], _∷_, _++_, append-assoc}
 use mathlib.Core.Bool.{Bool, true}
 use native.Mathlib.Omega.{arith}
 use native.Mathlib.Nat.{mul-le-mul-right, min-eq-left}
 use borrow.Author.Tests.{leb-true}
-use lib.ListN.{length, take, drop, replicate, length-append}
+use lib.ListN.{length, take, drop, replicate}
 use lib.Seq.{take-at, drop-at, take-all, drop-drop}
 use Rattle.types.specs.Numbers.{Id}
 use Rattle.rules.specs.Lists.{every}
@@ -16,7 +16,7 @@ use Rattle.rules.specs.Snapshot.{rowsWords, section, idWords, settingsWords, ma
 use Rattle.rules.proofs.Tests.{all-parts, every-parts}
 use Rattle.tables.specs.Rows.{pad, table, idTable}
 use Rattle.tables.proofs.Tables.{pad-is, rows-length, table-length}
-use Rattle.board.specs.Layout.{machineWidth, membersAt, committeeWidth, boundaryWidth, rotationWidth, seatWidth, seatsAt, leftAt, rightAt, reshapeWidth, machinesAt, committeesAt, boundsAt, rotationsAt, reshapesAt, boardSize, committeeRow, seatTable, reshapeHead, reshapeRow, settingsTable, machineTable, committeeTable, boundaryTable, rotationTable, reshapeTable, encode}
+use Rattle.board.specs.Layout.{machineWidth, committeeWidth, boundaryWidth, rotationWidth, seatWidth, seatsAt, leftAt, rightAt, reshapeWidth, machinesAt, committeesAt, boundsAt, rotationsAt, reshapesAt, boardSize, committeeRow, seatTable, reshapeHead, reshapeRow, settingsTable, machineTable, committeeTable, boundaryTable, rotationTable, reshapeTable, encode}
 use Rattle.board.specs.Held.{roomyCommittee, roomyReshape, Fits}
 use Rattle.board.proofs.Widths.{machine-wide, id-wide, committee-wide, boundary-wide, rotation-wide, seat-wide, head-wide, reshape-wide, settings-wide}
 use Rattle.snapshot.specs.declared.Nested.{Nested}

@@ -1,10 +1,10 @@
 -- How many words are packed.
 use Prim.Native.Nat.{ℕ, _+_, _-_, _*_, _≤_, _<_}
-use mathlib.Core.Path.{_≡_, sym, ap, _∙_}
+use mathlib.Core.Path.{_≡_, sym}
 use mathlib.Core.List.{List}
 use native.Mathlib.Omega.{arith}
 use native.Mathlib.Nat.{mul-le-mul-right, min-le-right, min-eq-left, min-eq-right}
-use lib.ListN.{length, getD, take, drop, length-append, length-drop, length-take}
+use lib.ListN.{length, getD, take, drop, length-append, length-drop}
 use lib.Seq.{length-take-le}
 use Rattle.rules.specs.Board.{mostMembers, mostSeats, mostHalf}
 use Rattle.board.specs.Layout.{membersAt, committeeWidth, seatWidth, seatsAt, leftAt, rightAt, reshapeWidth}

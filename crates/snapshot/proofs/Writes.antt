@@ -15,7 +15,7 @@ use Rattle.rules.specs.Snapshot.{bytesOf, wordsOf, snapshotOf, readSnapshot}
 use Rattle.rules.specs.WellFormed.{wellFormed}
 use Rattle.rules.proofs.SnapshotBytes.{bytes-length}
 use Rattle.rules.proofs.Snapshot.{snapshot-reads-back}
-use Rattle.board.specs.Layout.{machineWidth, boundaryWidth, rotationWidth, machinesAt, committeesAt, boundsAt, rotationsAt, reshapesAt, boardSize, encode}
+use Rattle.board.specs.Layout.{machineWidth, boundaryWidth, rotationWidth, machinesAt, committeesAt, boundsAt, rotationsAt, reshapesAt, boardSize}
 use Rattle.board.specs.Held.{Holds}
 use Rattle.board.specs.Permitted.{WellHeld}
 use Rattle.board.proofs.Widths.{board-wide}

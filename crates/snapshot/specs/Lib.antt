@@ -1,2 +1,3 @@
 pub mod Packed
 pub mod Written
+pub mod ReadAs

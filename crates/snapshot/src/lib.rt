@@ -225,13 +225,8 @@ fn put_board(t: &[u64], out: &mut [u8]) -> usize
         out,
         b,
     );
-    put_rows(
-        Nested::Reshapes,
-        MOST_RESHAPES,
-        &t[RESHAPES_AT..BOARD_SIZE],
-        out,
-        o,
-    )
+    let reshapes = Nested::Reshapes;
+    put_rows(reshapes, MOST_RESHAPES, &t[RESHAPES_AT..BOARD_SIZE], out, o)
 }
 
 // The size is known before the first byte is written.
