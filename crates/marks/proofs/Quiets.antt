@@ -10,7 +10,7 @@ use lib.ListN.{length, getD, set}
 use Rattle.types.specs.declared.Answer.the-variants.{Done, OutOfRange, NotThere}
 use Rattle.types.specs.declared.Outcome.{Outcome}
 use Rattle.rules.specs.Lists.{_or_}
-use Rattle.rules.specs.Table.{entry, at, holdsAt, update}
+use Rattle.rules.specs.Table.{entry, at, holdsAt}
 use Rattle.rules.specs.Board.{Board, Reshape, merge, onReshapes}
 use Rattle.rules.specs.WellFormed.{isTarget, wellFormed}
 use Rattle.rules.specs.Moves.{isKind, withQuiet}

@@ -1,13 +1,14 @@
 -- What an exported function says: numbers and lent words alone.
 use mathlib.Core.Path.{_≡_}
 use mathlib.Core.List.{List, [], _∷_}
-use mathlib.Core.Bool.{Bool, true}
 use Prim.Native.Nat.{ℕ}
 use Rattle.types.specs.Answers.{numberOf}
+use Rattle.types.specs.declared.Answer.{Answer}
 use Rattle.types.specs.declared.Outcome.{Outcome}
 use Rattle.rules.specs.Board.{Board}
 use Rattle.rules.specs.Turns.{Result}
 use Rattle.board.specs.Permitted.{WellHeld, PermittedStep}
+use Rattle.snapshot.specs.Written.{Written}
 
 -- a step: the answer's number; handled and draws used in `results`; the board's words
 pub record ExportedStep (step : Board → Result) (before after : List ℕ) (number : ℕ) (results : List ℕ) : Type 0 where
@@ -21,3 +22,9 @@ pub record ExportedCheck (ws : List ℕ) (number : ℕ) : Type 0 where
   pub yes : number ≡ 1 → WellHeld ws
   pub held : WellHeld ws → number ≡ 1
   pub bit : (number ≡ 1 → ⊥) → number ≡ 0
+
+-- a snapshot written: the answer's number, every lent byte and the length
+pub record ExportedWrite (ws before : List ℕ) (long : ℕ) (after : List ℕ) (longer number : ℕ) : Type 0 where
+  pub answer : Answer
+  pub written : Written ws before long after longer answer
+  pub told : number ≡ numberOf answer

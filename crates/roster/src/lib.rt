@@ -1,8 +1,11 @@
 // The door of the library: functions of numbers and slices, for C and Rust to call.
+use types::ShardId;
+use types::ValidatorId;
 ghost use mathlib.Core.Path.{_≡_};
 ghost use Rattle.board.specs.Layout.{boardSize};
 ghost use Rattle.rules.specs.Places.{tick, timeOut};
-ghost use Rattle.roster.specs.Exported.{ExportedStep, ExportedCheck};
+ghost use Rattle.rules.specs.Reshapes.{markSeatReady, markQuiet};
+ghost use Rattle.roster.specs.Exported.{ExportedStep, ExportedCheck, ExportedWrite};
 
 // How many words a board is: lend exactly as many.
 #[no_mangle]
@@ -31,6 +34,15 @@ pub extern "C" fn roster_well_formed(board: &[u64]) -> u64
     0
 }
 
+// The board's snapshot into lent bytes, and how many it has.
+#[no_mangle]
+pub extern "C" fn roster_write(board: &[u64], snapshot: &mut [u8], length: &mut u64) -> u64
+    ensures { λ r. ⌜ ExportedWrite (now (board .entry)) (now (snapshot .entry)) (now (length .entry)) (now (snapshot .exit)) (now (length .exit)) r ⌝ }
+{
+    let answer = snapshot::write_snapshot(board, snapshot, length);
+    answer.number()
+}
+
 #[no_mangle]
 pub extern "C" fn roster_tick(board: &mut [u64], results: &mut [u64; 2]) -> u64
     ensures { λ r. ⌜ ExportedStep tick (now (board .entry)) (now (board .exit)) r (now (results .exit)) ⌝ }
@@ -46,6 +58,36 @@ pub extern "C" fn roster_time_out(board: &mut [u64], results: &mut [u64; 2]) -> 
     ensures { λ r. ⌜ ExportedStep timeOut (now (board .entry)) (now (board .exit)) r (now (results .exit)) ⌝ }
 {
     let told = lifecycle::auto_ready_timeout(board);
+    *results = [told.handled, told.draws_used];
+    let answer = told.answer;
+    answer.number()
+}
+
+#[no_mangle]
+pub extern "C" fn roster_mark_seat_ready(
+    board: &mut [u64],
+    target: u64,
+    machine: u64,
+    results: &mut [u64; 2],
+) -> u64
+    ensures { λ r. ⌜ ExportedStep (markSeatReady target machine) (now (board .entry)) (now (board .exit)) r (now (results .exit)) ⌝ }
+{
+    let told = marks::mark_seat_ready(board, ShardId(target), ValidatorId(machine));
+    *results = [told.handled, told.draws_used];
+    let answer = told.answer;
+    answer.number()
+}
+
+#[no_mangle]
+pub extern "C" fn roster_mark_quiet(
+    board: &mut [u64],
+    target: u64,
+    side: u64,
+    results: &mut [u64; 2],
+) -> u64
+    ensures { λ r. ⌜ ExportedStep (markQuiet target side) (now (board .entry)) (now (board .exit)) r (now (results .exit)) ⌝ }
+{
+    let told = marks::mark_quiet(board, ShardId(target), side);
     *results = [told.handled, told.draws_used];
     let answer = told.answer;
     answer.number()
