@@ -1,1 +1,1 @@
-// Calls recorded from the original Rust, computed by the definitions; it holds no code.
+// Recorded calls, of the original Rust or of a plain reading where it has no such step, computed by the definitions; it holds no code.
