@@ -126,7 +126,7 @@ fn word_at(t: &[u64], i: usize) -> u64
 }
 
 // A row's words are below the next row's: by their first words or, in pairs, by the first two.
-fn rises(pairs: bool, s: &[u64], t: &[u64]) -> bool
+pub fn rises(pairs: bool, s: &[u64], t: &[u64]) -> bool
     ensures { λ r. ⌜ r ≡ rises pairs (now (s .entry)) (now (t .entry)) ⌝ }
 {
     let a = word_at(s, 0);
@@ -281,7 +281,7 @@ fn reshape_ok(t: &[u64]) -> bool
 
 // ---- A table of any kind of rows
 
-enum RowKind {
+pub enum RowKind {
     Machines,
     Committees,
     Boundaries,
@@ -289,7 +289,7 @@ enum RowKind {
     Reshapes,
 }
 
-fn row_ok(k: RowKind, t: &[u64]) -> bool
+pub fn row_ok(k: RowKind, t: &[u64]) -> bool
     requires { ⌜ length (now t) ≡ widthOf k ⌝ }
     ensures { λ r. ⌜ r ≡ rowOk k (now (t .entry)) ⌝ }
 {
@@ -348,7 +348,7 @@ fn numbers_ok(t: &[u64]) -> bool
         & (t[6] <= MOST_IN_FLIGHT)
 }
 
-fn settings_ok(t: &[u64]) -> bool
+pub fn settings_ok(t: &[u64]) -> bool
     requires { ⌜ length (now t) ≡ machinesAt ⌝ }
     ensures { λ r. ⌜ r ≡ settingsOk (now (t .entry)) ⌝ }
 {
