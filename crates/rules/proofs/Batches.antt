@@ -5,7 +5,7 @@ use mathlib.Core.Bool.{cond, not}
 use Prim.Native.Nat.{ℕ, _+_, _≤_}
 use Rattle.types.specs.Numbers.{Shard, Id, Epoch, Height}
 use Rattle.types.specs.Shards.{leftOf, rightOf}
-use Rattle.types.specs.Places.{isSeatedOn, isObserving, pooled, movedTo, keptOn, seatedFromWatch}
+use Rattle.types.specs.Places.{isSeatedOn, isObserving, pooled, movedTo, keptOn}
 use Rattle.types.specs.declared.Place.{Place}
 use Rattle.types.specs.declared.Answer.the-variants.{NoBoundary}
 use Rattle.rules.specs.Lists.{_or_}
@@ -14,8 +14,8 @@ use Rattle.rules.specs.Board.{split, merge, Seat, Reshape, Board, onResh
 use Rattle.rules.specs.Draws.{Drawn}
 use Rattle.rules.specs.Moves.{place, putOn, abortRotations, withDrainBy, boundsStand}
 use Rattle.rules.specs.Turns.{Turn, finished, _gives_, checked, drawn}
-use Rattle.rules.specs.Schedule.{isQuiet, scheduled, drainOrSchedule, splitGate, passGate, halve, scheduleSplit, scheduleSplits, mergeGate, scheduleMerge, scheduleMerges}
-use Rattle.rules.specs.Cut.{due, recast, settle, cohortFor, settleChild, cutSplitOf, cutSplit, cutSplits, others, rejoin, cutMergeOf, cutMerge, cutMerges}
+use Rattle.rules.specs.Schedule.{isQuiet, scheduled, drainEnd, drainOrSchedule, splitGate, passGate, halve, scheduleSplit, scheduleSplits, mergeGate, scheduleMerge, scheduleMerges}
+use Rattle.rules.specs.Cut.{due, recast, settle, seatedBy, cohortFor, settleChild, cutSplitOf, cutSplit, cutSplits, others, rejoin, cutMergeOf, cutMerge, cutMerges}
 use Rattle.rules.proofs.Turns.{forAll-keeps, Finishes, checked-finishes, drawn-told, reshape-finishes, batch-keeps}
 use Rattle.rules.proofs.Tests.{by-cases}
 use Rattle.rules.proofs.Counts.{occ}
@@ -26,12 +26,12 @@ any-drawn-finishes P d turn h = drawn-told P d turn (λ a left e. h a left)
 
 -- a property that both changes of a reshape keep is one of the turn's board
 module _ (P : Board → Type 0) (t : Shard) (r : Reshape) (left right : List Id) (draws : List ℕ) (b : Board) where
-  pub drain-finishes : P b → P (onReshapes (update t (withDrainBy (epochOf b + b .settings .drain))) b) → P (scheduled t r left right b) → Finishes P (drainOrSchedule t r left right draws b)
+  pub drain-finishes : P b → P (onReshapes (update t (withDrainBy (drainEnd b))) b) → P (scheduled t r left right b) → Finishes P (drainOrSchedule t r left right draws b)
   unfolding drainOrSchedule
   drain-finishes p d s = go (r .drainBy)
     where
       go : (o : Option Epoch) → Finishes P (elim o [
-        | none ↦ finished 0 draws (onReshapes (update t (withDrainBy (epochOf b + b .settings .drain))) b)
+        | none ↦ finished 0 draws (onReshapes (update t (withDrainBy (drainEnd b))) b)
         | some e ↦ cond (isQuiet r) (checked (not (boundsStand (r .kind) t b) gives NoBoundary ∷ []) (finished 1 draws (scheduled t r left right b))) (finished 0 draws b)
       ])
       go none = d
@@ -64,12 +64,12 @@ module _ (P : Board → Type 0)
 
 module _ (P : Board → Type 0)
     (moves : (c : Shard) (x : Id) (b : Board) → P b → P (putOn c (movedTo c) x b))
-    (sits : (c : Shard) (q : Seat) (x : Id) (b : Board) → P b → P (putOn c (seatedFromWatch c (q .ready) (epochOf b)) x b)) where
+    (sits : (c : Shard) (q : Seat) (x : Id) (b : Board) → P b → P (putOn c (seatedBy c q (epochOf b)) x b)) where
   settle-keeps : (t c : Shard) (seats : Table Seat) (x : Id) (b : Board) → P b → P (settle t c seats x b)
   unfolding settle
   settle-keeps t c seats x b p = go (at x (b .machines))
     where
-      look : (u : Place) (o : Option Seat) → P (elim o [ none ↦ b | some q ↦ cond (isObserving u) (putOn c (seatedFromWatch c (q .ready) (epochOf b)) x b) b ])
+      look : (u : Place) (o : Option Seat) → P (elim o [ none ↦ b | some q ↦ cond (isObserving u) (putOn c (seatedBy c q (epochOf b)) x b) b ])
       look u none = p
       look u (some q) = by-cases P (isObserving u) _ _ (λ e. sits c q x b p) (λ e. p)
 
@@ -77,7 +77,7 @@ module _ (P : Board → Type 0)
         | none ↦ b
         | some u ↦
             cond (isSeatedOn t u) (putOn c (movedTo c) x b)
-            (elim (at x seats) [ none ↦ b | some q ↦ cond (isObserving u) (putOn c (seatedFromWatch c (q .ready) (epochOf b)) x b) b ])
+            (elim (at x seats) [ none ↦ b | some q ↦ cond (isObserving u) (putOn c (seatedBy c q (epochOf b)) x b) b ])
       ])
       go none = p
       go (some u) = by-cases P (isSeatedOn t u) _ _ (λ e. moves c x b p) (λ e. look u (at x seats))

@@ -217,7 +217,7 @@ drain-reads t r lefts rights b = by-option (ReadsTurn (λ ds. schedule.drainOrSc
     (λ d e. same-reads _ quietly (λ ds. ap (told ds) e) (cond-reads (schedule.isQuiet r) _ _ (checked-reads _ _ (finished-reads 1 _)) (finished-reads 0 b)))
   where
     stamps : List ℕ → Turn
-    stamps ds = finished 0 ds (onReshapes (update t (withDrainBy (epochOf b + b .settings .drain))) b)
+    stamps ds = finished 0 ds (onReshapes (update t (withDrainBy (schedule.drainEnd b))) b)
 
     quietly : List ℕ → Turn
     quietly ds = cond (schedule.isQuiet r) (checked (not (boundsStand (r .kind) t b) gives NoBoundary ∷ []) (finished 1 ds (schedule.scheduled t r lefts rights b))) (finished 0 ds b)

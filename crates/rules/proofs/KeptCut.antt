@@ -10,7 +10,7 @@ use lib.Dec.{eqb, leb}
 use lib.ListN.{length, length-append}
 use Rattle.types.specs.Numbers.{Shard, Id, Epoch, Height}
 use Rattle.types.specs.Shards.{leftOf, rightOf}
-use Rattle.types.specs.Places.{isSeatedOn, isObserving, pooled, movedTo, keptOn, seatedFromWatch}
+use Rattle.types.specs.Places.{isSeatedOn, isObserving, pooled, movedTo, keptOn}
 use Rattle.types.specs.declared.ShardId.{ShardId}
 use Rattle.types.specs.declared.Epoch.{Epoch as Stamp}
 use Rattle.types.specs.declared.Place.{Place}
@@ -20,7 +20,7 @@ use Rattle.rules.specs.Table.{entry, Table, at, update, keysOf}
 use Rattle.rules.specs.Board.{Boundary, Kind, split, merge, Seat, Reshape, Board, mostMembers, mostSeats, mostHalf, epochOf}
 use Rattle.rules.specs.WellFormed.{goodSeat, isShard, isTarget, isWord, isStamp, goodOption, goodCommittee, goodBoundary}
 use Rattle.rules.specs.Moves.{says, membersOf, place, join, putOn, forAll, newBoundary, heightOf}
-use Rattle.rules.specs.Cut.{recast, fits, cutFaults, settle, cohortFor, settleChild, cutSplitOf, cutSplit, cutSplits, others, rejoin, larger, cutMergeOf, cutMerge, cutMerges}
+use Rattle.rules.specs.Cut.{recast, fits, cutFaults, settle, seatedBy, cohortFor, settleChild, cutSplitOf, cutSplit, cutSplits, others, rejoin, larger, cutMergeOf, cutMerge, cutMerges}
 use Rattle.rules.proofs.Counts.{Alike, same, apart, eqb-same, alike, eqb-apart, hit, hit-apart, occ, occ-nil, occ-append, occ-single}
 use Rattle.rules.proofs.Tables.{at-put}
 use Rattle.rules.proofs.Tests.{of-no, by-cases, and-parts, and-joins, or-cases, all-parts, all-joins, le-of, lt-of-no, eq-of}
@@ -163,26 +163,26 @@ from-seat c t move (Observing s w) n k m h = absurd (false≢true h)
 from-seat c t move Short n k m h = absurd (false≢true h)
 from-seat c t move (Other m) n k l h = absurd (false≢true h)
 
-watched : (c : Shard) (ready : Bool) (e : Epoch) (p : Place) → isShard c ≡ true → isStamp e ≡ true → isObserving p ≡ true → Arrives c (seatedFromWatch c ready e) p
-watched c ready e Pooled ok w h = absurd (false≢true h)
-watched c ready e (Seated s r u) ok w h = absurd (false≢true h)
-watched c ready e (Observing s u) ok w h = record { keeps = keeps-seatedFromWatch c ok ready e w; before = refl; after = eqb-same c }
-watched c ready e Short ok w h = absurd (false≢true h)
-watched c ready e (Other m) ok w h = absurd (false≢true h)
+watched : (c : Shard) (q : Seat) (e : Epoch) (p : Place) → isShard c ≡ true → isStamp e ≡ true → isObserving p ≡ true → Arrives c (seatedBy c q e) p
+watched c q e Pooled ok w h = absurd (false≢true h)
+watched c q e (Seated s r u) ok w h = absurd (false≢true h)
+watched c q e (Observing s u) ok w h = record { keeps = keeps-seatedFromWatch c ok (q .ready) e w; before = refl; after = eqb-same c }
+watched c q e Short ok w h = absurd (false≢true h)
+watched c q e (Other m) ok w h = absurd (false≢true h)
 
 settle-keeps : (a : Board) (t c : Shard) (seats : Table Seat) → c ≢ t → (x : Id) (l : List Id) (b : Board) → Settling a c (x ∷ l) b → Settling a c l (settle t c seats x b)
 unfolding settle
 settle-keeps a t c seats n x l b s = go (at x (b .machines)) refl
   where
-    look : (p : Place) → at x (b .machines) ≡ some p → (q : Option Seat) → Settling a c l (elim q [ none ↦ b | some k ↦ cond (isObserving p) (putOn c (seatedFromWatch c (k .ready) (epochOf b)) x b) b ])
+    look : (p : Place) → at x (b .machines) ≡ some p → (q : Option Seat) → Settling a c l (elim q [ none ↦ b | some k ↦ cond (isObserving p) (putOn c (seatedBy c k (epochOf b)) x b) b ])
     look p e none = pass x l s
-    look p e (some k) = by-cases (Settling a c l) (isObserving p) _ _ (λ u. arrive x l p _ e (watched c (k .ready) (epochOf b) p (s .shard) (stamp-now (s .good)) u) s) (λ u. pass x l s)
+    look p e (some k) = by-cases (Settling a c l) (isObserving p) _ _ (λ u. arrive x l p _ e (watched c k (epochOf b) p (s .shard) (stamp-now (s .good)) u) s) (λ u. pass x l s)
 
     go : (o : Option Place) → at x (b .machines) ≡ o → Settling a c l (elim o [
       | none ↦ b
       | some p ↦
           cond (isSeatedOn t p) (putOn c (movedTo c) x b)
-          (elim (at x seats) [ none ↦ b | some q ↦ cond (isObserving p) (putOn c (seatedFromWatch c (q .ready) (epochOf b)) x b) b ])
+          (elim (at x seats) [ none ↦ b | some q ↦ cond (isObserving p) (putOn c (seatedBy c q (epochOf b)) x b) b ])
     ])
     go none e = pass x l s
     go (some p) e = by-cases (Settling a c l) (isSeatedOn t p) _ _ (λ u. arrive x l p _ e (from-seat c t (movedTo c) p n (keeps-movedTo c (s .shard)) (λ q r w. eqb-same c) u) s) (λ u. look p e (at x seats))

@@ -15,7 +15,7 @@ use Rattle.rules.specs.Board.{Kind, split, merge, Reshape, Board, mostMe
 use Rattle.rules.specs.WellFormed.{isStamp, mayHaveHalves}
 use Rattle.rules.specs.Moves.{says, membersOf, place, quit, takeOff, entrantsOn, abortRotations, withDrainBy, withTerminal, isKind, oldShards}
 use Rattle.rules.specs.Reshapes.{halfUp}
-use Rattle.rules.specs.Schedule.{unscheduled, scheduled, seatedThere, splitGate, passGate, halve, scheduleSplit, scheduleSplits, mergeGate, scheduleMerge, scheduleMerges}
+use Rattle.rules.specs.Schedule.{unscheduled, scheduled, drainEnd, seatedThere, splitGate, passGate, halve, scheduleSplit, scheduleSplits, mergeGate, scheduleMerge, scheduleMerges}
 use Rattle.rules.proofs.Counts.{occ, occ-take}
 use Rattle.rules.proofs.Tests.{by-cases, and-parts, or-cases, or-left, or-right, of-not, not-of, le-of, lt-of-no, has-occ}
 use Rattle.rules.proofs.KeptLists.{part-keep, part-length, part-occ, occ-drop, occ-sort, length-sort, Ids, Ids-none, Ids-part}
@@ -36,8 +36,8 @@ good-scheduled t r left right b a l m k h =
     forAll-keeps Good _ (λ s c. good-marked s (epochOf b + 1) (r .admitted) e a) (oldShards (r .kind) t) _
     (good-reshape t (withTerminal (epochOf b + 1) left right) (λ q u f. Fit-terminal (epochOf b + 1) e l m (k q u) f) h)
 
-good-drainBy : (t : Shard) (b : Board) → Good b → Good (onReshapes (update t (withDrainBy (epochOf b + b .settings .drain))) b)
-good-drainBy t b h = good-reshape t (withDrainBy (epochOf b + b .settings .drain)) (λ q e f. Fit-drainBy _ (stamp h _ (limits _ (h .settings) .drain)) f) h
+good-drainBy : (t : Shard) (b : Board) → Good b → Good (onReshapes (update t (withDrainBy (drainEnd b))) b)
+good-drainBy t b h = good-reshape t (withDrainBy (drainEnd b)) (λ q e f. Fit-drainBy _ (stamp h _ (limits _ (h .settings) .drain)) f) h
 
 -- ---- SCHEDULE MERGES
 
@@ -126,7 +126,7 @@ module _ (shards : List Shard) where
   unfolding abortRotations takeOff quit place
   splits-abort t b h = record { good = good-abort t (h .good); kinds = forAll-keeps (Kinds shards) _ (λ x c k. k) (entrantsOn t (b .rotations)) b (h .kinds) }
 
-  splits-drainBy : (t : Shard) (b : Board) → Splits shards b → Splits shards (onReshapes (update t (withDrainBy (epochOf b + b .settings .drain))) b)
+  splits-drainBy : (t : Shard) (b : Board) → Splits shards b → Splits shards (onReshapes (update t (withDrainBy (drainEnd b))) b)
   unfolding isKind
   splits-drainBy t b h = record { good = good-drainBy t b (h .good); kinds = kinds-update t _ b (λ r. refl) (h .kinds) }
 

@@ -7,14 +7,14 @@ use Prim.Native.Nat.{ℕ, _≤_}
 use lib.Dec.{eqb, leb}
 use Rattle.types.specs.Numbers.{Shard, Id, Epoch}
 use Rattle.types.specs.Shards.{leftOf, rightOf}
-use Rattle.types.specs.Places.{isSeatedOn, isObserving, movedTo, keptOn, seatedFromWatch}
+use Rattle.types.specs.Places.{isSeatedOn, isObserving, movedTo, keptOn}
 use Rattle.types.specs.declared.Place.{Place}
 use Rattle.rules.specs.Lists.{_or_}
 use Rattle.rules.specs.Table.{Table, at, remove}
 use Rattle.rules.specs.Board.{Kind, split, merge, Seat, Reshape, Board, epochOf}
 use Rattle.rules.specs.Moves.{place, join, putOn, heightOf}
 use Rattle.rules.specs.Turns.{finished}
-use Rattle.rules.specs.Cut.{isTerminal, due, settle, settleChild, cutSplitOf, cutSplit, cutSplits, rejoin, larger, cutMergeOf, cutMerge, cutMerges}
+use Rattle.rules.specs.Cut.{isTerminal, due, settle, seatedBy, settleChild, cutSplitOf, cutSplit, cutSplits, rejoin, larger, cutMergeOf, cutMerge, cutMerges}
 use Rattle.rules.proofs.Counts.{occ}
 use Rattle.rules.proofs.Tables.{at-remove, tally}
 use Rattle.rules.proofs.Tests.{and-parts}
@@ -75,13 +75,13 @@ settle-reshapes t c seats x b = go (at x (b .machines))
     pick true move d e = refl
     pick false move d e = e
 
-    look : (p : Place) (o : Option Seat) → OnReshapes b (elim o [ none ↦ b | some q ↦ cond (isObserving p) (putOn c (seatedFromWatch c (q .ready) (epochOf b)) x b) b ])
+    look : (p : Place) (o : Option Seat) → OnReshapes b (elim o [ none ↦ b | some q ↦ cond (isObserving p) (putOn c (seatedBy c q (epochOf b)) x b) b ])
     look p none = refl
-    look p (some q) = pick (isObserving p) (seatedFromWatch c (q .ready) (epochOf b)) b refl
+    look p (some q) = pick (isObserving p) (seatedBy c q (epochOf b)) b refl
 
     go : (o : Option Place) → OnReshapes b (elim o [
       | none ↦ b
-      | some p ↦ cond (isSeatedOn t p) (putOn c (movedTo c) x b) (elim (at x seats) [ none ↦ b | some q ↦ cond (isObserving p) (putOn c (seatedFromWatch c (q .ready) (epochOf b)) x b) b ])
+      | some p ↦ cond (isSeatedOn t p) (putOn c (movedTo c) x b) (elim (at x seats) [ none ↦ b | some q ↦ cond (isObserving p) (putOn c (seatedBy c q (epochOf b)) x b) b ])
     ])
     go none = refl
     go (some p) = pick (isSeatedOn t p) (movedTo c) _ (look p (at x seats))

@@ -19,7 +19,7 @@ use Rattle.rules.specs.Draws.{drew, shuffle}
 use Rattle.rules.specs.Moves.{poolOf, says, membersOf, place, join, quit, putOn, takeOff, forAll, pooledFrom, dropRotations, entrantsOn, abortRotations, withSeats, withDrainBy, withTerminal, isKind, reshapeAt, newSeat, watch, oldShards, boundsStand}
 use Rattle.rules.specs.Turns.{finished, _gives_, checked}
 use Rattle.rules.specs.Reshapes.{halfUp, readySeat, markSeatReady, quieted, markQuiet, awaitsCohort, watchAll, cohortTurn, drawCohort, cohortOf, released, lapse}
-use Rattle.rules.specs.Schedule.{unscheduled, isQuiet, scheduled, drainOrSchedule, seatedThere, splitGate, passGate, halve, scheduleSplit, scheduleSplits, mergeGate, scheduleMerge, scheduleMerges}
+use Rattle.rules.specs.Schedule.{unscheduled, isQuiet, scheduled, drainEnd, drainOrSchedule, seatedThere, splitGate, passGate, halve, scheduleSplit, scheduleSplits, mergeGate, scheduleMerge, scheduleMerges}
 use Rattle.rules.proofs.Counts.{Alike, same, apart, alike, eqb-same, hit, hit-same, hit-apart, occ, occ-append, occ-take, occ-keep, shuffle-keeps}
 use Rattle.rules.proofs.Tables.{From, tally, tally-update, tally-same, known-most, occ-keysWhere}
 use Rattle.rules.proofs.Tests.{and-parts, of-no}
@@ -215,7 +215,7 @@ terminal-keeps t e l m r b er fit h = record {
 
 -- draining, then the terminal: what holds of the board, of a drain stamp, of a terminal, and is left by a boundary's marks
 drain-ends : (P : Board → Type 0) (t : Shard) (r : Reshape) (left right : List Id) (draws : List ℕ) (b : Board)
-    → ((c : Shard) (f : Boundary → Boundary) (d : Board) → P d → P (onBounds (update c f) d)) → P (onReshapes (update t (withDrainBy (epochOf b + b .settings .drain))) b)
+    → ((c : Shard) (f : Boundary → Boundary) (d : Board) → P d → P (onBounds (update c f) d)) → P (onReshapes (update t (withDrainBy (drainEnd b))) b)
     → P (onReshapes (update t (withTerminal (epochOf b + 1) left right)) b) → P b → Finishes P (drainOrSchedule t r left right draws b)
 unfolding drainOrSchedule scheduled
 drain-ends P t r left right draws b marks drain set p = go (r .drainBy)
@@ -225,7 +225,7 @@ drain-ends P t r left right draws b marks drain set p = go (r .drainBy)
     quiet false = p
 
     go : (o : Option Epoch) → Finishes P (elim o [
-      | none ↦ finished 0 draws (onReshapes (update t (withDrainBy (epochOf b + b .settings .drain))) b)
+      | none ↦ finished 0 draws (onReshapes (update t (withDrainBy (drainEnd b))) b)
       | some e ↦ cond (isQuiet r) (checked (not (boundsStand (r .kind) t b) gives NoBoundary ∷ []) (finished 1 draws (scheduled t r left right b))) (finished 0 draws b)
     ])
     go none = drain

@@ -9,7 +9,7 @@ use native.Mathlib.Omega.{arith}
 use lib.Dec.{eqb}
 use Rattle.types.specs.Numbers.{Shard, Id}
 use Rattle.types.specs.Shards.{leftOf, rightOf}
-use Rattle.types.specs.Places.{shardId, epochAt, isSeatedOn, isObserving, movedTo, seatedFromWatch}
+use Rattle.types.specs.Places.{shardId, isSeatedOn, isObserving, movedTo}
 use Rattle.types.specs.declared.ShardId.{ShardId}
 use Rattle.types.specs.declared.Epoch.{Epoch}
 use Rattle.types.specs.declared.Place.{Place}
@@ -18,7 +18,7 @@ use Rattle.rules.specs.Lists.{bitOf}
 use Rattle.rules.specs.Table.{at}
 use Rattle.rules.specs.Board.{split, Seat, Reshape, Board, epochOf}
 use Rattle.rules.specs.Moves.{putOn, forAll, childrenOf, heightOf}
-use Rattle.rules.specs.Cut.{due, recast, settle, cohortFor, settleChild}
+use Rattle.rules.specs.Cut.{due, recast, settle, seatedBy, cohortFor, settleChild}
 use Rattle.rules.proofs.Counts.{Alike, same, apart, alike, hit-same, hit-apart, occ, occ-append}
 use Rattle.rules.proofs.Tables.{tally, occ-keysWhere}
 use Rattle.rules.proofs.SeatsFormed.{Sound}
@@ -64,11 +64,11 @@ module _ (t : Shard) (r : Reshape) (b : Board) (er : at t (b .reshapes) ≡ some
       seen u w e = rw e (hit-same (u .0))
 
       look : (u : ShardId) (w : Epoch) → at x (d .machines) ≡ some (Observing u w) → (o : Option Seat) → at x (r .seats) ≡ o → Alike (u .0) t
-          → Out (elim o [ none ↦ d | some q ↦ putOn c (seatedFromWatch c (q .ready) (epochOf d)) x d ])
+          → Out (elim o [ none ↦ d | some q ↦ putOn c (seatedBy c q (epochOf d)) x d ])
       look u w e none f (apart p v) = over (Observing u w) e (omega (arith, hit-apart (u .0) t p))
       look u w e none f (same p v) = absurd (omega (arith, rw f at (has-seat x), g .eyes t x, rw p at (seen u w e)))
       look u w e (some q) f (same p v) =
-          land (t ∷ []) (childrenOf t) b x rest d g c k (seatedFromWatch c (q .ready) (epochOf d)) (Observing u w) (shardId c) (q .ready) (epochAt (epochOf d)) e
+          land (t ∷ []) (childrenOf t) b x rest d g c k (seatedBy c q (epochOf d)) (Observing u w) (shardId c) (q .ready) _ e
           (rw p (omega (arith, hit-same t))) refl refl
       look u w e (some q) f (apart p v) = absurd (omega (arith, one-eye (u .0) x p (rw f (omega arith)), g .eyes (u .0) x, seen u w e))
 
@@ -76,7 +76,7 @@ module _ (t : Shard) (r : Reshape) (b : Board) (er : at t (b .reshapes) ≡ some
         | none ↦ d
         | some p ↦
             cond (isSeatedOn t p) (putOn c (movedTo c) x d)
-            (elim (at x (r .seats)) [ none ↦ d | some q ↦ cond (isObserving p) (putOn c (seatedFromWatch c (q .ready) (epochOf d)) x d) d ])
+            (elim (at x (r .seats)) [ none ↦ d | some q ↦ cond (isObserving p) (putOn c (seatedBy c q (epochOf d)) x d) d ])
       ])
       go none e = pass-none (t ∷ []) (childrenOf t) b x rest d g e
       go (some Pooled) e = idle (over Pooled e refl) (at x (r .seats))

@@ -10,7 +10,7 @@ use lib.Dec.{eqb}
 use lib.ListN.{length, take, drop}
 use Rattle.types.specs.Numbers as numbers
 use Rattle.types.specs.Shards.{leftOf, rightOf, quorum}
-use Rattle.types.specs.Places.{movedTo, seatedFromWatch, short}
+use Rattle.types.specs.Places.{movedTo, short}
 use Rattle.types.specs.declared.ShardId.{ShardId}
 use Rattle.types.specs.declared.Epoch.{Epoch}
 use Rattle.types.specs.declared.Place.{Place}
@@ -68,7 +68,7 @@ unfolding putOn join place
 cut-keeps-stamps x s r w b e =
     cutSplits-keeps (λ c. Carries x r w (c .machines))
     (λ c y d h. update-carries x r w y (movedTo c) (record { to = λ v. record { 0 = c }; moved = λ v. refl }) (d .machines) h)
-    (λ c q y d h. update-carries x r w y (seatedFromWatch c (q .ready) (epochOf d)) (record { to = λ v. v; moved = λ v. refl }) (d .machines) h)
+    (λ c q y d h. update-carries x r w y (cut.seatedBy c q (epochOf d)) (record { to = λ v. v; moved = λ v. refl }) (d .machines) h)
     b (λ t o height c h. recast-carries x r w split t height c h) (record { shard = s; there = e })
 
 -- ---- 'one quorum test for both halves'

@@ -9,13 +9,13 @@ use lib.Dec.{eqb}
 use lib.ListN.{take, drop, take-append-drop}
 use Rattle.types.specs.Numbers.{Shard, Id, Epoch, Height}
 use Rattle.types.specs.Shards.{leftOf, rightOf}
-use Rattle.types.specs.Places.{isPooled, isSeatedOn, observes, pooled, short, drawnTo, movedTo, keptOn, seatedFromWatch, madeReady}
+use Rattle.types.specs.Places.{isPooled, isSeatedOn, observes, pooled, short, drawnTo, movedTo, keptOn, madeReady}
 use Rattle.types.specs.declared.Place.{Place}
 use Rattle.types.specs.declared.Place.the-variants.{Pooled, Seated, Observing, Short, Other}
 use Rattle.types.specs.declared.Answer.the-variants.{NoRecord}
 use Rattle.rules.specs.Lists.{_and_, _or_}
 use Rattle.rules.specs.Table.{Table, at, each, update, keysWhere}
-use Rattle.rules.specs.Board.{Rotation, Kind, split, merge, Reshape, Board, epochOf, sizeOf}
+use Rattle.rules.specs.Board.{Rotation, Kind, split, merge, Seat, Reshape, Board, epochOf, sizeOf}
 use Rattle.rules.specs.WellFormed.{wellFormed}
 use Rattle.rules.specs.Moves.{poolOf, place, join, quit, putOn, takeOff, forAll, pooledFrom, abortRotations, entrantsOn, giveUpSeat, watch, oldShards, newShards, isParty}
 use Rattle.rules.specs.Turns.{refused}
@@ -102,12 +102,12 @@ watcher-sits now v (Observing s w) h = refl
 watcher-sits now v Short h = absurd (Option·none-ne-some v h)
 watcher-sits now v (Other m) h = absurd (Option·none-ne-some v h)
 
-right-seatedFromWatch : (now : Epoch) (s : Shard) (ready : Bool) → Right now (seatedFromWatch s ready now)
-right-seatedFromWatch now s ready p Pooled h = h
-right-seatedFromWatch now s ready p (Seated t r w) h = h
-right-seatedFromWatch now s ready p (Observing t w) h = watcher-sits now (w .0) p h
-right-seatedFromWatch now s ready p Short h = h
-right-seatedFromWatch now s ready p (Other m) h = h
+right-seatedBy : (now : Epoch) (s : Shard) (q : Seat) → Right now (cut.seatedBy s q now)
+right-seatedBy now s k p Pooled h = h
+right-seatedBy now s k p (Seated t r w) h = h
+right-seatedBy now s k p (Observing t w) h = watcher-sits now (w .0) p h
+right-seatedBy now s k p Short h = h
+right-seatedBy now s k p (Other m) h = h
 
 -- one that was in the pool when the call began may be seated or set to watch, stamped now
 pool-sits : (now : Epoch) (p : Place) → isPooled p ≡ true → onSeat now p ≡ some now
@@ -279,7 +279,7 @@ since-cutSplits : (b : Board) → Since b (cut.cutSplits b .board)
 since-cutSplits b =
     cutSplits-keeps (Since b)
     (λ s x c. since-putOn b c s x (movedTo s) (right-movedTo (epochOf b) s))
-    (λ s q x c h. since-putOn b c s x _ (rw (h .1) (right-seatedFromWatch (epochOf b) s (q .ready))) h)
+    (λ s q x c h. since-putOn b c s x _ (rw (h .1) (right-seatedBy (epochOf b) s q)) h)
     b (λ t o. since-recast b split t) (since-now b)
 
 since-cutMerges : (b : Board) → Since b (cut.cutMerges b .board)

@@ -8,6 +8,7 @@ use lib.ListN.{length}
 use Rattle.types.specs.Numbers.{Shard, Id, Epoch, Height}
 use Rattle.types.specs.Shards.{leftOf, rightOf}
 use Rattle.types.specs.Places.{isSeatedOn, isObserving, pooled, movedTo, keptOn, seatedFromWatch}
+use Rattle.types.specs.declared.Place.{Place}
 use Rattle.types.specs.declared.Answer.the-variants.{NoRecord, NoBoundary, NoRoom}
 use Rattle.rules.specs.Lists.{_and_, _or_, every, keep}
 use Rattle.rules.specs.Table.{Table, at, stands, put, remove, keysWhere, keysOf}
@@ -46,14 +47,18 @@ cutFaults k t ids after b =
 
 -- ---- CUT SPLITS
 
--- 'one seated on the target moves, keeping ready and stamp; one observing that has a seat in this split becomes seated with the seat's ready, stamped now; others are passed over'
+-- 'one observing that has a seat in this split becomes seated with the seat's ready, stamped now'
+abbrev pub seatedBy : Shard → Seat → Epoch → Place → Place
+seatedBy c q now p = seatedFromWatch c (q .ready) now p
+
+-- 'one seated on the target moves, keeping ready and stamp; ...; others are passed over'
 unfoldable pub settle : Shard → Shard → Table Seat → Id → Board → Board
 settle t c seats x b =
     elim (at x (b .machines)) [
       | none ↦ b
       | some p ↦
           cond (isSeatedOn t p) (putOn c (movedTo c) x b)
-          (elim (at x seats) [ none ↦ b | some q ↦ cond (isObserving p) (putOn c (seatedFromWatch c (q .ready) (epochOf b)) x b) b ])
+          (elim (at x seats) [ none ↦ b | some q ↦ cond (isObserving p) (putOn c (seatedBy c q (epochOf b)) x b) b ])
     ]
 
 -- 'cohort seats of that child by id'

@@ -5,7 +5,7 @@ use mathlib.Core.Option.{none, some}
 use mathlib.Core.Bool.{Bool, cond, not}
 use lib.Dec.{eqb, leb}
 use lib.ListN.{length, take, drop}
-use Rattle.types.specs.Numbers.{Shard, Id}
+use Rattle.types.specs.Numbers.{Shard, Id, Epoch}
 use Rattle.types.specs.Shards.{leftOf, rightOf, quorum}
 use Rattle.types.specs.Places.{isSeatedOn, isReady}
 use Rattle.types.specs.declared.Answer.the-variants.{NoBoundary}
@@ -31,11 +31,15 @@ scheduled t r left right b =
     forAll (λ s. onBounds (update s (markedBoundary (epochOf b + 1) (r .admitted)))) (oldShards (r .kind) t)
     (onReshapes (update t (withTerminal (epochOf b + 1) left right)) b)
 
+-- 'epoch plus D'
+abbrev pub drainEnd : Board → Epoch
+drainEnd b = epochOf b + b .settings .drain
+
 -- 'then draining: the first time, drain-by becomes epoch plus D and nothing is scheduled. Later, if quiet, ...'
 unfoldable pub drainOrSchedule : Shard → Reshape → List Id → List Id → List ℕ → Board → Turn
 drainOrSchedule t r left right draws b =
     elim (r .drainBy) [
-      | none ↦ finished 0 draws (onReshapes (update t (withDrainBy (epochOf b + b .settings .drain))) b)
+      | none ↦ finished 0 draws (onReshapes (update t (withDrainBy (drainEnd b))) b)
       | some e ↦ cond (isQuiet r) (checked (not (boundsStand (r .kind) t b) gives NoBoundary ∷ []) (finished 1 draws (scheduled t r left right b))) (finished 0 draws b)
     ]
 
