@@ -67,16 +67,6 @@ fn age_at(board: &mut [u64], i: usize, epoch: Epoch, wait: u64) -> u64
     0
 }
 
-// How many rows to walk: no more than there is room for.
-fn rows_within(n: usize) -> usize
-    ensures { λ r. ⌜ (r ≤ mostMachines) × (n ≤ mostMachines → r ≡ n) ⌝ }
-{
-    if MOST_MACHINES < n {
-        return MOST_MACHINES;
-    }
-    n
-}
-
 // The ready timeout, for words that are known to hold a well-formed board.
 pub fn auto_ready_timeout_held(board: &mut [u64]) -> Outcome
     requires { ⌜ length (now board) ≡ boardSize ⌝ }
@@ -84,7 +74,7 @@ pub fn auto_ready_timeout_held(board: &mut [u64]) -> Outcome
 {
     let epoch = settings::epoch(board);
     let wait = settings::ready_wait(board);
-    let n = rows_within(machines::count(board));
+    let n = steps::rows_within(machines::count(board), MOST_MACHINES);
     let mut k: u64 = 0;
     let mut i: usize = 0;
     while i < n {

@@ -1,0 +1,17 @@
+-- A step over several shards, on its way: what is done, what is left, and the board in between.
+use Prim.Native.Nat.{ℕ, _≤_}
+use mathlib.Core.Path.{_≡_}
+use mathlib.Core.List.{List}
+use lib.ListN.{length, drop}
+use Rattle.types.specs.Numbers.{Shard}
+use Rattle.rules.specs.Board.{Board}
+use Rattle.rules.specs.Turns.{Turn, inTurn, batch}
+use Rattle.board.specs.Held.{Holds}
+
+-- the first i shards have had their turns, with these counts; the words hold the board that they left, which has what each turn keeps
+pub record Underway (turn : Shard → List ℕ → Board → Turn) (Keeps : Board → Type 0) (shards : List Shard) (draws : List ℕ) (b : Board) (i handled at : ℕ) (now : List ℕ) : Type 0 where
+  pub board : Board
+  pub holds : Holds now board
+  pub kept : Keeps board
+  pub read : at ≤ length draws
+  pub rest : batch turn shards draws b ≡ inTurn turn (drop i shards) handled at (drop at draws) board
