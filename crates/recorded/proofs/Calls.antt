@@ -1,4 +1,4 @@
--- Calls recorded from the original Rust and from the plain reading, made by `oracle/small`; see recorded/README.md.
+-- Calls recorded from the original Rust and from the plain reading, made by `oracle/small`; see docs/RECORDED.md.
 use mathlib.Core.List.{List, [], _∷_}
 use Rattle.recorded.specs.Call.{Call, call}
 

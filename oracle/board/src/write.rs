@@ -74,7 +74,7 @@ fn put_reshape(out: &mut Vec<u64>, target: u64, reshape: &Reshape) {
     put_ids(out, &reshape.halves[1]);
 }
 
-/// A snapshot's checksum, as recorded/README.md says it: from the offset
+/// A snapshot's checksum, as docs/RECORDED.md says it: from the offset
 /// 14695981039346656037, each word in turn is joined by exclusive or, then
 /// multiplied by 1099511628211, modulo 2^64 (FNV-1a over whole words).
 #[must_use]

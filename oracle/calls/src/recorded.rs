@@ -1,5 +1,5 @@
 //! The recorded calls: which they are, and their form, which
-//! recorded/README.md says word by word.
+//! docs/RECORDED.md says word by word.
 
 use board::checksum;
 use plain::{Args, Outcome, Step};

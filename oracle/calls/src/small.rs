@@ -164,7 +164,7 @@ fn line(small: &Small) -> String {
 pub fn print_small(calls: &[Small]) -> String {
     let mut out = String::from(
         "-- Calls recorded from the original Rust and from the plain reading, made by `oracle/small`; \
-         see recorded/README.md.\n\
+         see docs/RECORDED.md.\n\
          use mathlib.Core.List.{List, [], _∷_}\n\
          use Rattle.recorded.specs.Call.{Call, call}\n",
     );

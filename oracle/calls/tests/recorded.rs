@@ -6,12 +6,12 @@ use calls::{Call, Reached, Series};
 use plain::Slip;
 
 fn file() -> Vec<u8> {
-    let path = concat!(env!("CARGO_MANIFEST_DIR"), "/../../recorded/calls.bin");
-    std::fs::read(path).expect("recorded/calls.bin is in the repository")
+    let path = concat!(env!("CARGO_MANIFEST_DIR"), "/../../crates/replay/data/calls.bin");
+    std::fs::read(path).expect("crates/replay/data/calls.bin is in the repository")
 }
 
 fn replayed() -> Vec<Series> {
-    let all = decode(&file()).expect("the form of recorded/README.md");
+    let all = decode(&file()).expect("the form of docs/RECORDED.md");
     let replay = |recorded: &Recorded| recorded.replay().expect("the plain reading agrees");
     all.iter().map(replay).collect()
 }
@@ -66,7 +66,7 @@ fn every_slip_is_told_apart() {
 /// Each of a line's numbers, and the end, is held against the reading.
 #[test]
 fn a_changed_number_is_told_apart() {
-    let all = decode(&file()).expect("the form of recorded/README.md");
+    let all = decode(&file()).expect("the form of docs/RECORDED.md");
     let edits: [fn(&mut Recorded); 5] = [
         |one| one.lines[0].outcome.answer += 1,
         |one| one.lines[0].outcome.handled += 1,

@@ -1,0 +1,170 @@
+// A series of the recorded file: a starting snapshot, calls, and the snapshot after the last.
+use crate::calls;
+use crate::calls::Call;
+use crate::input;
+use crate::sums;
+use crate::tally;
+use crate::tally::PLACES;
+
+const WORDS: usize = 5861;
+
+const ROOM: usize = 65536;
+
+const MOST_DRAWS: usize = 4096;
+
+const MOST_CALLS: usize = 65536;
+
+// The code of a read, and the places of the first and the last snapshot.
+const READ: u64 = 16;
+
+const FIRST: u64 = 0;
+
+const LAST: u64 = 17;
+
+// The checksum of the board's snapshot; 0 where the words hold no well-formed board.
+fn sum_of(board: &[u64]) -> u64 {
+    let mut snapshot = io::large_buffer();
+    let mut length: u64 = 0;
+    if roster::roster_write(board, &mut snapshot, &mut length) != 0 {
+        return 0;
+    }
+    let n = sums::within(length, ROOM);
+    sums::checksum(&snapshot[..n])
+}
+
+// Whether the board's snapshot has these bytes.
+fn is_written_as(board: &[u64], bytes: &[u8]) -> bool {
+    let mut snapshot = io::large_buffer();
+    let mut length: u64 = 0;
+    if roster::roster_write(board, &mut snapshot, &mut length) != 0 {
+        return false;
+    }
+    let n = sums::within(length, ROOM);
+    check::same(&snapshot[..n], bytes)
+}
+
+// A snapshot is read, and written back; words with its structure that are no board's are laid out all the same.
+fn begins(start: &[u8], board: &mut [u64; WORDS], tally: &mut [u64; PLACES]) -> bool {
+    if roster::roster_read(start, board) == 0 {
+        tally::add(tally, FIRST, is_written_as(board, start));
+        return true;
+    }
+    tally::pass_over(tally, FIRST);
+    unpacking::unpack_board(start, board);
+    false
+}
+
+// Reads the bytes into words that stay as they are where it refuses.
+fn reads_as(call: Call, bytes: &[u8], board: &[u64; WORDS]) -> bool {
+    let mut other = [7u64; WORDS];
+    let answer = roster::roster_read(bytes, &mut other);
+    if answer == 0 {
+        return (call.answer == 0) & sums::same_words(board, &other);
+    }
+    let untouched = [7u64; WORDS];
+    (call.answer == answer) & sums::same_words(&untouched, &other)
+}
+
+// Reads the snapshot as it is: the board's, or the starting bytes where they are no board's.
+fn reads_again(call: Call, start: &[u8], good: bool, board: &[u64; WORDS]) -> bool {
+    if !good {
+        return reads_as(call, start, board);
+    }
+    let mut snapshot = io::large_buffer();
+    let mut length: u64 = 0;
+    if roster::roster_write(board, &mut snapshot, &mut length) != 0 {
+        return false;
+    }
+    let n = sums::within(length, ROOM);
+    reads_as(call, &snapshot[..n], board)
+}
+
+// Makes the call: whether its answer, its counts and the board are as recorded, a refusal's word for word.
+fn makes_as(call: Call, draws: &[u64], board: &mut [u64; WORDS], sum: u64) -> bool {
+    let before = *board;
+    let mut results = [0u64; 2];
+    let answer = calls::make(call, board, draws, &mut results);
+    let told = (answer == call.answer) & (results[0] == call.handled) & (results[1] == call.used);
+    if answer == 0 {
+        return told & (sum_of(board) == sum);
+    }
+    told & sums::same_words(&before, board)
+}
+
+// Whether the board is still the recorded one, and the checksum of its snapshot.
+struct Stand {
+    known: bool,
+    sum: u64,
+}
+
+// One call: made if its step is there and the board known; one that is not there is passed over, and where it changed the board the rest is not made.
+fn follow_call(
+    fd: i32,
+    start: &[u8],
+    good: bool,
+    board: &mut [u64; WORDS],
+    at: Stand,
+    tally: &mut [u64; PLACES],
+) -> Stand {
+    let call = calls::next(fd);
+    let mut draws = [0u64; MOST_DRAWS];
+    let n = sums::within(call.draws, MOST_DRAWS);
+    input::words(fd, &mut draws[..n]);
+    let sum = input::word(fd);
+    let made = at.known & calls::is_there(call.step);
+    if !made {
+        tally::pass_over(tally, call.step);
+        return Stand { known: at.known & (sum == at.sum), sum: sum };
+    }
+    let mut same = false;
+    if call.step == READ {
+        same = reads_again(call, start, good, board);
+    } else {
+        same = makes_as(call, &draws[..n], board, sum);
+    }
+    tally::add(tally, call.step, same);
+    Stand { known: same, sum: sum }
+}
+
+fn follow_calls(
+    fd: i32,
+    start: &[u8],
+    good: bool,
+    board: &mut [u64; WORDS],
+    tally: &mut [u64; PLACES],
+) -> bool {
+    let mut at = Stand { known: true, sum: sums::checksum(start) };
+    let mut left = sums::within(input::word(fd), MOST_CALLS);
+    while 0 < left {
+        at = follow_call(fd, start, good, board, at, tally);
+        left -= 1;
+    }
+    at.known
+}
+
+// The snapshot after the last call.
+fn end(fd: i32, start: &[u8], good: bool, board: &[u64; WORDS], known: bool, tally: &mut [u64; PLACES]) {
+    let mut last = io::large_buffer();
+    let n = 8 * sums::within(input::word(fd), ROOM / 8);
+    input::bytes(fd, &mut last[..n]);
+    if !known {
+        tally::pass_over(tally, LAST);
+        return;
+    }
+    if good {
+        tally::add(tally, LAST, is_written_as(board, &last[..n]));
+    } else {
+        tally::add(tally, LAST, check::same(start, &last[..n]));
+    }
+}
+
+pub fn follow(fd: i32, tally: &mut [u64; PLACES]) {
+    let mut board = [0u64; WORDS];
+    let mut start = io::large_buffer();
+    let n = sums::within(input::word(fd), ROOM - 8);
+    let m = (n + 7) / 8 * 8;
+    input::bytes(fd, &mut start[..m]);
+    let good = begins(&start[..n], &mut board, tally);
+    let known = follow_calls(fd, &start[..n], good, &mut board, tally);
+    end(fd, &start[..m], good, &board, known, tally);
+}
