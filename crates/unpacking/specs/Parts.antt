@@ -1,5 +1,5 @@
 -- A part of a snapshot that is read: words, or a list and zeros after it.
-use Prim.Native.Nat.{ℕ, _+_, _*_, _≤_}
+use Prim.Native.Nat.{ℕ, _+_, _*_, _≤_, _<_}
 use mathlib.Core.Path.{_≡_}
 use mathlib.Core.List.{List, _++_}
 use lib.ListN.{length, getD, drop}
@@ -15,8 +15,9 @@ pub record PartRead (pack : List ℕ → List ℕ) (good : List ℕ → Type 0) 
 abbrev pub plain : List ℕ → List ℕ
 plain v = v
 
+-- n words, and at least one
 abbrev pub Wide : ℕ → List ℕ → Type 0
-Wide n v = length v ≡ n
+Wide n v = (0 < n) × (length v ≡ n)
 
 -- a count within its limit, and zeros past that many rows
 pub record Listed (w cap : ℕ) (v : List ℕ) : Type 0 where

@@ -1,3 +1,9 @@
+use mathlib.Core.Path.{refl, ap, _∙_}
+use native.Mathlib.Omega.{arith}
+use Rattle.wellformed.specs.declared.RowKind.the-variants.{Machines, Boundaries, Rotations}
+use Rattle.wellformed.specs.Check.{widthOf}
+use Rattle.board.proofs.Widths.{machine-wide, boundary-wide, rotation-wide}
+use Rattle.unpacking.proofs.Rows.{of-kind, flat-read}
 use borrow.Author.Needs.{needs}
 use Rattle.unpacking.proofs.unpack_kind.Statement.{statement}
 use Rattle.unpacking.proofs.unpack_kind.Tie as tie
@@ -21,7 +27,7 @@ enum-told-2 c = search needs
 
 -- src/lib.rt:118:32
 unpack-committee-requires : tie.Need-unpack-committee-requires
-unpack-committee-requires c κs = ?
+unpack-committee-requires c κs = c .before .before .before .before .before .pre ∙ ap widthOf (c .before .enum-told2 .given .1)
 
 -- src/lib.rt:119:56
 enum-told-3 : tie.Need-enum-told-3
@@ -45,7 +51,7 @@ enum-told-5 c = search needs
 
 -- src/lib.rt:121:30
 unpack-reshape-requires : tie.Need-unpack-reshape-requires
-unpack-reshape-requires c κs = ?
+unpack-reshape-requires c κs = c .before .before .before .before .before .pre ∙ ap widthOf (c .before .enum-told5 .given .1)
 
 -- src/lib.rt:112:1
 same-length : tie.Need-same-length
@@ -53,7 +59,7 @@ same-length c = search needs
 
 -- src/lib.rt:112:1
 returns : tie.Need-returns
-returns c = ?
+returns c = λ ws h. flat-read Machines (c .before .before .before .before .before .before .before .before .args .out .now) (c .before .before .before .before .enum-told .given .1) (c .before .before .before .before .before .before .before .before .pre) (omega arith) (λ v. refl) machine-wide (c .before .before .unpack-words .ensures ws h)
 
 -- src/lib.rt:112:1
 same-length-2 : tie.Need-same-length-2
@@ -61,7 +67,7 @@ same-length-2 c = search needs
 
 -- src/lib.rt:112:1
 returns-2 : tie.Need-returns-2
-returns-2 c = ?
+returns-2 c = λ ws h. of-kind (c .before .before .before .before .enum-told2 .given .1) (c .before .before .unpack-committee .ensures ws h)
 
 -- src/lib.rt:112:1
 same-length-3 : tie.Need-same-length-3
@@ -69,7 +75,7 @@ same-length-3 c = search needs
 
 -- src/lib.rt:112:1
 returns-3 : tie.Need-returns-3
-returns-3 c = ?
+returns-3 c = λ ws h. flat-read Boundaries (c .before .before .before .before .before .before .before .before .args .out .now) (c .before .before .before .before .enum-told3 .given .1) (c .before .before .before .before .before .before .before .before .pre) (omega arith) (λ v. refl) boundary-wide (c .before .before .unpack-words2 .ensures ws h)
 
 -- src/lib.rt:112:1
 same-length-4 : tie.Need-same-length-4
@@ -77,7 +83,7 @@ same-length-4 c = search needs
 
 -- src/lib.rt:112:1
 returns-4 : tie.Need-returns-4
-returns-4 c = ?
+returns-4 c = λ ws h. flat-read Rotations (c .before .before .before .before .before .before .before .before .args .out .now) (c .before .before .before .before .enum-told4 .given .1) (c .before .before .before .before .before .before .before .before .pre) (omega arith) (λ v. refl) rotation-wide (c .before .before .unpack-words3 .ensures ws h)
 
 -- src/lib.rt:112:1
 same-length-5 : tie.Need-same-length-5
@@ -85,7 +91,7 @@ same-length-5 c = search needs
 
 -- src/lib.rt:112:1
 returns-5 : tie.Need-returns-5
-returns-5 c = ?
+returns-5 c = λ ws h. of-kind (c .before .before .before .before .enum-told5 .given .1) (c .before .before .unpack-reshape .ensures ws h)
 
 pub unpack-kind-spec : {M : Type 1} → statement M
 unpack-kind-spec =

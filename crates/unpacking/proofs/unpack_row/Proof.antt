@@ -1,3 +1,6 @@
+use native.Mathlib.Omega.{arith}
+use Rattle.unpacking.proofs.Bytes.{total}
+use Rattle.unpacking.proofs.Rows.{row-read, row-none}
 use borrow.Author.Needs.{needs}
 use Rattle.unpacking.proofs.unpack_row.Statement.{statement}
 use Rattle.unpacking.proofs.unpack_row.Tie as tie
@@ -15,7 +18,7 @@ same-length c = search needs
 
 -- src/lib.rt:132:9
 returns : tie.Need-returns
-returns c = ?
+returns c = λ ws h. row-none (c .before .before .before .unpack-kind .ensures ws h) (omega (arith, total h))
 
 -- src/lib.rt:126:1
 same-length-2 : tie.Need-same-length-2
@@ -23,7 +26,7 @@ same-length-2 c = search needs
 
 -- src/lib.rt:126:1
 returns-2 : tie.Need-returns-2
-returns-2 c = ?
+returns-2 c = λ ws h. row-read (c .before .before .before .unpack-kind .ensures ws h) (omega (arith, total h))
 
 pub unpack-row-spec : {M : Type 1} → statement M
 unpack-row-spec =
