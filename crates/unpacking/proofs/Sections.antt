@@ -1,6 +1,6 @@
 -- Rows one after another, and a table of them.
 use Prim.Native.Nat.{ℕ, suc, _+_, _-_, _*_, _≤_, _<_}
-use mathlib.Core.Path.{_≡_, refl, ap, sym, _∙_}
+use mathlib.Core.Path.{_≡_, refl, ap, sym, subst, _∙_}
 use mathlib.Core.List.{List, [], _∷_, _++_, append-assoc, append-nil}
 use mathlib.Core.Bool.{true}
 use native.Mathlib.Omega.{arith}
@@ -171,3 +171,6 @@ module _ (k : RowKind) (w cap n at m : ℕ) (ws out y : List ℕ) (width : w ≡
                 ∙ rw (c .0, v .0, cleared, i) (ap (λ (l : List ℕ). length xs ∷ l) (sym (pad-is (cap * widthOf k) rows (omega (arith, rl, mul-le-mul-right (widthOf k) few))))),
             omega (arith, c .1, v .1),
           )
+
+pub roomed : {k : RowKind} {m n : ℕ} {ws t : List ℕ} {at r : ℕ} → m ≡ n → TableRead k m ws t at r → TableRead k n ws t at r
+roomed {k} {ws} {t} {at} {r} e q = subst (λ (i : ℕ). TableRead k i ws t at r) e q

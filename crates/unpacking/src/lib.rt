@@ -36,12 +36,12 @@ ghost use lib.ListN.{length, getD, drop};
 ghost use Rattle.rules.specs.Board.{Board};
 ghost use Rattle.rules.specs.Snapshot.{snapshotOf};
 ghost use Rattle.rules.specs.WellFormed.{wellFormed};
-ghost use Rattle.board.specs.Layout.{committeeWidth, reshapeWidth, boardSize, encode};
+ghost use Rattle.board.specs.Layout.{committeeWidth, reshapeWidth, machinesAt, boardSize, encode};
 ghost use Rattle.snapshot.specs.Packed.{flat, committee, reshape};
 ghost use Rattle.wellformed.specs.Check.{widthOf};
 ghost use Rattle.unpacking.specs.AsWords.{AsWords};
 ghost use Rattle.unpacking.specs.Parts.{PartRead, plain, Wide, Listed};
-ghost use Rattle.unpacking.specs.Unpacked.{GoodRow, packedRow, RowRead, RowsRead, TableRead};
+ghost use Rattle.unpacking.specs.Unpacked.{mostOf, GoodRow, packedRow, RowRead, RowsRead, TableRead, SettingsRead};
 
 // ---- Words
 
@@ -188,49 +188,79 @@ fn unpack_table(k: RowKind, w: usize, cap: usize, bytes: &[u8], at: usize, out: 
     next
 }
 
+fn width(k: RowKind) -> usize
+    ensures { λ r. ⌜ r ≡ widthOf k ⌝ }
+{
+    match k {
+        RowKind::Machines => MACHINE_WIDTH,
+        RowKind::Committees => COMMITTEE_WIDTH,
+        RowKind::Boundaries => BOUNDARY_WIDTH,
+        RowKind::Rotations => ROTATION_WIDTH,
+        RowKind::Reshapes => RESHAPE_WIDTH,
+    }
+}
+
+fn most(k: RowKind) -> usize
+    ensures { λ r. ⌜ r ≡ mostOf k ⌝ }
+{
+    match k {
+        RowKind::Machines => MOST_MACHINES,
+        RowKind::Committees => MOST_COMMITTEES,
+        RowKind::Boundaries => MOST_BOUNDS,
+        RowKind::Rotations => MOST_ROTATIONS,
+        RowKind::Reshapes => MOST_RESHAPES,
+    }
+}
+
+fn unpack_section(k: RowKind, bytes: &[u8], at: usize, out: &mut [u64]) -> usize
+    requires { ⌜ length (now out) ≡ 1 + mostOf k * widthOf k ⌝ }
+    ensures { λ r. ⌜ ((ws : List ℕ) → AsWords (now (bytes .entry)) ws → TableRead k (mostOf k) ws (now (out .exit)) at r) ⌝ }
+{
+    unpack_table(k, width(k), most(k), bytes, at, out)
+}
+
+// Six numbers after their count; the room past them is cleared.
+fn unpack_settings(bytes: &[u8], out: &mut [u64]) -> usize
+    requires { ⌜ length (now out) ≡ machinesAt ⌝ }
+    ensures { λ r. ⌜ ((ws : List ℕ) → AsWords (now (bytes .entry)) ws → SettingsRead ws (now (out .exit)) r) ⌝ }
+{
+    let next = unpack_words(bytes, 0, &mut out[0..SETTINGS_END]);
+    clear(&mut out[SETTINGS_END..MACHINES_AT]);
+    next
+}
+
 // The words of the board whose snapshot the bytes are; those past it stay.
 pub fn unpack_board(bytes: &[u8], board: &mut [u64])
     requires { ⌜ boardSize ≤ length (now board) ⌝ }
     ensures { λ _. ⌜ ((b : Board) → now (bytes .entry) ≡ snapshotOf b → wellFormed b ≡ true → now (board .exit) ≡ encode b ++ drop boardSize (now (board .entry))) ⌝ }
 {
-    let machines = unpack_words(bytes, 0, &mut board[0..SETTINGS_END]);
-    clear(&mut board[SETTINGS_END..MACHINES_AT]);
-    let committees = unpack_table(
+    let machines = unpack_settings(bytes, &mut board[0..MACHINES_AT]);
+    let committees = unpack_section(
         RowKind::Machines,
-        MACHINE_WIDTH,
-        MOST_MACHINES,
         bytes,
         machines,
         &mut board[MACHINES_AT..COMMITTEES_AT],
     );
-    let bounds = unpack_table(
+    let bounds = unpack_section(
         RowKind::Committees,
-        COMMITTEE_WIDTH,
-        MOST_COMMITTEES,
         bytes,
         committees,
         &mut board[COMMITTEES_AT..BOUNDS_AT],
     );
-    let rotations = unpack_table(
+    let rotations = unpack_section(
         RowKind::Boundaries,
-        BOUNDARY_WIDTH,
-        MOST_BOUNDS,
         bytes,
         bounds,
         &mut board[BOUNDS_AT..ROTATIONS_AT],
     );
-    let reshapes = unpack_table(
+    let reshapes = unpack_section(
         RowKind::Rotations,
-        ROTATION_WIDTH,
-        MOST_ROTATIONS,
         bytes,
         rotations,
         &mut board[ROTATIONS_AT..RESHAPES_AT],
     );
-    unpack_table(
+    unpack_section(
         RowKind::Reshapes,
-        RESHAPE_WIDTH,
-        MOST_RESHAPES,
         bytes,
         reshapes,
         &mut board[RESHAPES_AT..BOARD_SIZE],
