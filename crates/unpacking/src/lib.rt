@@ -178,13 +178,13 @@ fn unpack_table(k: RowKind, w: usize, cap: usize, bytes: &[u8], at: usize, out: 
     ensures { λ r. ⌜ ((ws : List ℕ) → AsWords (now (bytes .entry)) ws → TableRead k cap ws (now (out .exit)) at r) ⌝ }
 {
     let rows = unpack_words(bytes, at, &mut out[0..1]);
-    let n = out[0] as usize;
-    if cap < n {
+    let count = out[0] as usize;
+    if cap < count {
         return 0;
     }
-    let e = 1 + n * w;
-    let next = unpack_rows(k, w, n, bytes, rows, &mut out[1..e]);
-    clear(&mut out[e..]);
+    let end = 1 + count * w;
+    let next = unpack_rows(k, w, count, bytes, rows, &mut out[1..end]);
+    clear(&mut out[end..]);
     next
 }
 
