@@ -62,6 +62,7 @@ fn past(bytes: &[u8]) -> usize
     bytes.len() / 8 + 1
 }
 
+// As many words as `out` has room for; where they are not all there, no word, and a place past the last.
 fn unpack_words(bytes: &[u8], at: usize, out: &mut [u64]) -> usize
     ensures { λ r. ⌜ ((ws : List ℕ) → AsWords (now (bytes .entry)) ws → PartRead plain (Wide (length (now (out .entry)))) ws (now (out .exit)) at r) ⌝ }
 {
