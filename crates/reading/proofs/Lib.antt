@@ -1,0 +1,2 @@
+pub mod EachKind
+pub mod Streams
