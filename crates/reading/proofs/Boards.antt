@@ -1,28 +1,34 @@
 -- The settings and the sections, one after another to the end, are a board's snapshot; and such a snapshot is read so.
-use Prim.Native.Nat.{ℕ, zero, suc, _+_, _≤_, _<_}
+use Prim.Native.Nat.{ℕ, zero, suc, _+_, _%_, _≤_, _<_}
 use mathlib.Core.Path.{_≡_, refl, ap, sym, _∙_}
 use mathlib.Core.List.{List, [], _∷_, _++_, append-nil}
-use mathlib.Core.Option.{some}
-use mathlib.Core.Bool.{Bool, true}
+use mathlib.Core.Option.{Option, none, some}
+use mathlib.Core.Bool.{Bool, true, false, _&&_, false≢true}
 use native.Mathlib.Omega.{arith}
-use lib.ListN.{length, take, drop, replicate, length-append, length-drop, drop-of-length-le}
+use borrow.Author.Tests.{eqb-true, eq-eqb}
+use lib.Dec.{eqb}
+use lib.ListN.{length, getD, take, drop, replicate, length-append, length-drop, drop-of-length-le}
+use Rattle.types.specs.declared.Answer.the-variants.{Done, NoRoom, NotASnapshot}
 use Rattle.rules.specs.Lists.{_and_, every}
 use Rattle.rules.specs.Board.{Settings, Board, mostMachines, mostCommittees, mostBounds, mostRotations, mostReshapes}
 use Rattle.rules.specs.WellFormed.{isWord, goodList, wellFormed}
-use Rattle.rules.specs.Snapshot.{section, settingsWords, machineWords, committeeWords, boundaryWords, rotationWords, reshapeWords, wordsOf, bytesOf, wordsOfBytes, snapshotOf}
+use Rattle.rules.specs.Snapshot.{section, settingsWords, machineWords, committeeWords, boundaryWords, rotationWords, reshapeWords, wordsOf, bytesOf, wordsOfBytes, snapshotOf, readSnapshot}
 use Rattle.rules.proofs.Tests.{all-parts, all-joins, every-join, every-none, every-append}
-use Rattle.rules.proofs.Snapshot.{words-are-words, bytes-read-back}
+use Rattle.rules.proofs.Snapshot.{words-are-words, bytes-read-back, snapshot-reads-back, snapshot-read-writes}
 use Rattle.tables.specs.Rows.{pad}
-use Rattle.board.specs.Layout.{settingsTable}
+use Rattle.board.specs.Layout.{boardSize, settingsTable, encode}
 use Rattle.wellformed.specs.declared.RowKind.{RowKind}
 use Rattle.wellformed.specs.declared.RowKind.the-variants.{Machines, Committees, Boundaries, Rotations, Reshapes}
 use Rattle.wellformed.specs.Check.{settingsOk}
+use Rattle.wellformed.proofs.Tests.{left-true, right-true, both}
 use Rattle.wellformed.proofs.Decides.{Words, word-at}
 use Rattle.wellformed.proofs.Rows.{gets, gets-is, settings-decides}
+use Rattle.snapshot.specs.ReadAs.{ReadAs, notSnapshot, tooShort, readAs}
 use Rattle.unpacking.specs.AsWords.{AsWords}
 use Rattle.unpacking.specs.Unpacked.{RowOf, snapRow}
-use Rattle.reading.specs.Told.{Snapshot}
+use Rattle.reading.specs.Told.{Snapshot, TellsSnapshot}
 use Rattle.reading.specs.Stream.{goodOf, beforeOf, SectionAt, TellsSection, HeadAt, TellsHead}
+use Rattle.reading.proofs.Bytes.{snapshot-eights}
 use Rattle.reading.proofs.Streams.{after}
 
 -- ---- the settings
@@ -47,9 +53,14 @@ head-pack : (s : Settings) → take 7 (settingsTable s) ≡ settingsWords s
 unfolding settingsTable settingsWords pad
 head-pack s = refl
 
-pub head-short : (ws : List ℕ) (r : Bool) → length ws < 7 → HeadAt ws → ⊥
+pub head-none : (ws : List ℕ) → length ws < 7 → TellsHead ws false
 unfolding settingsWords
-head-short ws r l h = omega (arith, ap length (h .words))
+head-none ws l = record { yes = λ h. absurd (false≢true h); held = λ h. absurd (omega (arith, ap length (h .words))) }
+
+-- what the code has in its scratch
+pub head-made : (ws : List ℕ) {a b c d e f g : ℕ} → a ≡ getD ws 0 0 → b ≡ getD ws 1 0 → c ≡ getD ws 2 0 → d ≡ getD ws 3 0 → e ≡ getD ws 4 0 → f ≡ getD ws 5 0 → g ≡ getD ws 6 0
+    → a ∷ b ∷ c ∷ d ∷ e ∷ f ∷ g ∷ replicate 9 0 ≡ headWords ws
+head-made ws a b c d e f g = cc
 
 pub head-told : (ws : List ℕ) (r : Bool) → Words ws → 7 ≤ length ws → r ≡ settingsOk (headWords ws) → TellsHead ws r
 head-told ws r v l e = record {
@@ -125,3 +136,31 @@ module _ (bs ws : List ℕ) (as' : AsWords bs ws) (m c b o r : ℕ) (tm : TellsS
       let l : drop o ws ≡ section reshapeWords (v .reshapes) ++ [] = O .past ∙ sym (append-nil _) in
       let R = reaches Reshapes mostReshapes ws [] o r (v .reshapes) tr (O .more) (g .1 .1 .1 .1 .1 .0) l in
       (record { settings = v .settings; good = g .0; words = w ∙ ap (λ (u : List ℕ). settingsWords (v .settings) ++ u) (sym w7) }, to-the-end Reshapes ws o r (v .reshapes) l R)
+
+  -- THE FIRST PASS TELLS, of any bytes, whether they are a well-formed board's snapshot
+  pub pass-tells : (h q : Bool) → TellsHead ws h → q ≡ eqb r (length ws) → TellsSnapshot bs (h && q)
+  pass-tells h q t e = record {
+    yes = λ y. board-there (t .yes (left-true h q y)) (eqb-true r (length ws) (sym e ∙ right-true h q y));
+    held = λ p. let g = board-reached p in both h q (t .held (g .0)) (e ∙ eq-eqb r (length ws) (g .1));
+  }
+
+pub pass-odd : (bs : List ℕ) → (length bs % 8 ≡ 0 → ⊥) → TellsSnapshot bs false
+pass-odd bs h = record { yes = λ y. absurd (false≢true y); held = λ p. absurd (h (snapshot-eights bs p)) }
+
+-- ---- the read
+
+pub read-refused : (bs before : List ℕ) (r : Bool) → TellsSnapshot bs r → r ≡ false → ReadAs bs before before NotASnapshot
+read-refused bs before r t e = go (readSnapshot bs) refl
+  where
+    go : (o : Option Board) → readSnapshot bs ≡ o → ReadAs bs before before NotASnapshot
+    go none p = notSnapshot p refl refl
+    go (some b) p = let w = snapshot-read-writes bs b p in absurd (false≢true (sym e ∙ t .held (record { board = b; good = w .1; bytes = w .0 })))
+
+reads-it : (bs : List ℕ) (p : Snapshot bs) → readSnapshot bs ≡ some (p .board)
+reads-it bs p = ap readSnapshot (p .bytes) ∙ snapshot-reads-back (p .board) (p .good)
+
+pub read-short : (bs before : List ℕ) → Snapshot bs → length before < boardSize → ReadAs bs before before NoRoom
+read-short bs before p l = tooShort (p .board) (reads-it bs p) l refl refl
+
+pub read-done : (bs before after : List ℕ) (p : Snapshot bs) → boardSize ≤ length before → after ≡ encode (p .board) ++ drop boardSize before → ReadAs bs before after Done
+read-done bs before after p l e = readAs (p .board) (reads-it bs p) l refl e

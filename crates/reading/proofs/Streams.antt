@@ -25,6 +25,14 @@ use Rattle.reading.proofs.EachKind.{row-decides, row-roomy, row-packs, 
 pub after : (a e : ℕ) (ws A B : List ℕ) → drop a ws ≡ A ++ B → e ≡ a + length A → drop e ws ≡ B
 after a e ws A B p s = ap (λ (n : ℕ). drop n ws) s ∙ sym (drop-drop (length A) a ws) ∙ ap (drop (length A)) p ∙ drop-at A B (length A) refl
 
+-- a row's order needs two words of the next
+pub rises-two : (pairs : Bool) (t ws : List ℕ) (at a b : ℕ) → a ≡ getD ws at 0 → b ≡ getD ws (at + 1) 0 → rises pairs t (a ∷ b ∷ []) ≡ rises pairs t (drop at ws)
+rises-two pairs t ws at a b p q =
+    let z : at ≡ at + 0 = omega arith in
+    let p' : a ≡ getD (drop at ws) 0 0 = p ∙ ap (λ (n : ℕ). getD ws n 0) z ∙ sym (getD-drop at ws 0 0) in
+    let q' : b ≡ getD (drop at ws) 1 0 = q ∙ sym (getD-drop at ws 1 0) in
+    rw (p', q')
+
 -- ---- a row
 
 module _ (k : RowKind) (last : Bool) (ws : List ℕ) (at : ℕ) where
