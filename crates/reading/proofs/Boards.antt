@@ -27,7 +27,7 @@ use Rattle.snapshot.specs.ReadAs.{ReadAs, notSnapshot, tooShort, readAs}
 use Rattle.unpacking.specs.AsWords.{AsWords}
 use Rattle.unpacking.specs.Unpacked.{RowOf, snapRow}
 use Rattle.reading.specs.Told.{Snapshot, TellsSnapshot}
-use Rattle.reading.specs.Stream.{goodOf, beforeOf, SectionAt, TellsSection, HeadAt, TellsHead}
+use Rattle.reading.specs.Stream.{goodOf, beforeOf, TellsSection, HeadAt, TellsHead}
 use Rattle.reading.proofs.Bytes.{snapshot-eights}
 use Rattle.reading.proofs.Streams.{after}
 
@@ -65,8 +65,8 @@ head-made ws a b c d e f g = cc
 pub head-told : (ws : List ℕ) (r : Bool) → Words ws → 7 ≤ length ws → r ≡ settingsOk (headWords ws) → TellsHead ws r
 head-told ws r v l e = record {
   yes = λ h.
-  let d = settings-decides .sound (headWords ws) (every-append isWord (gets 0 7 ws) (replicate 9 0) (gets-words 7 0 ws v) zeros-words) refl (sym e ∙ h) in
-  record { settings = d .value; good = d .fine; words = gets-is 7 0 ws l ∙ ap (λ (u : List ℕ). u ++ drop 7 ws) (ap (take 7) (d .words) ∙ head-pack (d .value)) };
+      let d = settings-decides .sound (headWords ws) (every-append isWord (gets 0 7 ws) (replicate 9 0) (gets-words 7 0 ws v) zeros-words) refl (sym e ∙ h) in
+      record { settings = d .value; good = d .fine; words = gets-is 7 0 ws l ∙ ap (λ (u : List ℕ). u ++ drop 7 ws) (ap (take 7) (d .words) ∙ head-pack (d .value)) };
   held = λ h. e ∙ ap settingsOk (ap headWords (h .words) ∙ head-table (h .settings) (drop 7 ws)) ∙ settings-decides .complete (h .settings) (h .good);
 }
 

@@ -4,10 +4,11 @@ use mathlib.Core.Path.{_≡_, refl, sym}
 use mathlib.Core.List.{List, _++_}
 use mathlib.Core.Bool.{true, or-false}
 use native.Mathlib.Omega.{arith}
-use lib.ListN.{length}
+use lib.ListN.{length, take}
+use lib.Seq.{length-take-le}
 use Rattle.rules.specs.WellFormed.{rotationBefore}
 use Rattle.rules.specs.Snapshot.{machineWords, committeeWords, boundaryWords, rotationWords, reshapeWords}
-use Rattle.board.specs.Layout.{committeeRow, reshapeHead, reshapeRow}
+use Rattle.board.specs.Layout.{reshapeWidth, committeeRow, reshapeHead, reshapeRow}
 use Rattle.board.proofs.One.{committee-room, reshape-room}
 use Rattle.wellformed.specs.declared.RowKind.{RowKind}
 use Rattle.wellformed.specs.declared.RowKind.the-variants.{Machines, Committees, Boundaries, Rotations, Reshapes}
@@ -60,9 +61,17 @@ row-long Boundaries e = omega arith
 row-long Rotations e = omega arith
 row-long Reshapes e = omega arith
 
-pub width-most : (k : RowKind) → widthOf k ≤ 204
+width-most : (k : RowKind) → widthOf k ≤ reshapeWidth
 width-most Machines = omega arith
 width-most Committees = omega arith
 width-most Boundaries = omega arith
 width-most Rotations = omega arith
 width-most Reshapes = omega arith
+
+-- scratch for the widest row has room for each
+module _ (k : RowKind) (w : ℕ) (row : List ℕ) (e : w ≡ widthOf k) (l : length row ≡ reshapeWidth) where
+  pub row-room : w ≤ length row
+  row-room = omega (arith, width-most k)
+
+  pub row-lent : length (take w row) ≡ w
+  row-lent = length-take-le w row row-room

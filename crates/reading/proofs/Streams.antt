@@ -1,5 +1,5 @@
 -- STREAMS DECIDED, once for every kind of row: what pass one tells row by row is what stands in the words.
-use Prim.Native.Nat.{ℕ, zero, suc, _+_, _-_, _≤_, _<_}
+use Prim.Native.Nat.{ℕ, suc, _+_, _-_, _≤_, _<_}
 use mathlib.Core.Path.{_≡_, refl, ap, sym, _∙_}
 use mathlib.Core.List.{List, [], _∷_, _++_, append-assoc}
 use mathlib.Core.Logic.{_⊎_, inl, inr}
@@ -180,8 +180,7 @@ module _ (k : RowKind) (cap : ℕ) (ws : List ℕ) (at : ℕ) where
   counted e p =
       let g = all-parts _ (p .good) in
       let c : getD ws at 0 ≡ length (p .rows) =
-      let z : at + 0 ≡ at = omega arith in ap (λ (n : ℕ). getD ws n 0) (sym z) ∙ sym (getD-drop at ws 0 0) ∙ ap (λ (u : List ℕ). getD u 0 0) (p .words) in
-      (
+      let z : at + 0 ≡ at = omega arith in ap (λ (n : ℕ). getD ws n 0) (sym z) ∙ sym (getD-drop at ws 0 0) ∙ ap (λ (u : List ℕ). getD u 0 0) (p .words) in (
         omega (arith, length-drop at ws, ap length (p .words)),
         omega (arith, leb-true (length (p .rows)) cap (g .0)),
         record {

@@ -11,13 +11,7 @@ use Rattle.rules.specs.Snapshot.{section, settingsWords}
 use Rattle.wellformed.specs.declared.RowKind.{RowKind}
 use Rattle.wellformed.specs.declared.RowKind.the-variants.{Machines, Committees, Boundaries, Rotations, Reshapes}
 use Rattle.wellformed.specs.Check.{rises, inPairs}
-use Rattle.unpacking.specs.AsWords.{AsWords}
 use Rattle.unpacking.specs.Unpacked.{RowOf, fullRow, snapRow}
-
--- the bytes are some words'
-pub record Whole (bytes : List ℕ) : Type 0 where
-  pub words : List ℕ
-  pub held : AsWords bytes words
 
 -- ---- rows
 

@@ -1,5 +1,6 @@
 // Bytes to the lent words of a board: first whether they are a well-formed board's snapshot, then its words.
 mod standin;
+
 use board::layout::BOARD_SIZE;
 use board::layout::BOUNDARY_WIDTH;
 use board::layout::COMMITTEE_WIDTH;
@@ -12,23 +13,23 @@ use board::layout::MOST_ROTATIONS;
 use board::layout::RESHAPE_WIDTH;
 use board::layout::ROTATION_WIDTH;
 use board::layout::SETTINGS_END;
-use types::Answer;
 use standin::unpack_board;
 use standin::unpack_row;
 use standin::word;
+use types::Answer;
 use wellformed::RowKind;
 use wellformed::rises;
 use wellformed::row_ok;
 use wellformed::settings_ok;
 ghost use mathlib.Core.Path.{_≡_};
 ghost use mathlib.Core.List.{List};
-ghost use Prim.Native.Nat.{ℕ, _≤_};
+ghost use Prim.Native.Nat.{ℕ, _%_, _≤_};
 ghost use lib.ListN.{length, drop};
 ghost use Rattle.wellformed.specs.Check.{inPairs, widthOf, rises};
 ghost use Rattle.snapshot.specs.ReadAs.{ReadAs};
 ghost use Rattle.unpacking.specs.AsWords.{AsWords};
 ghost use Rattle.reading.specs.Told.{TellsSnapshot};
-ghost use Rattle.reading.specs.Stream.{Whole, TellsRow, TellsSection, TellsHead};
+ghost use Rattle.reading.specs.Stream.{TellsRow, TellsSection, TellsHead};
 
 // ---- A kind of rows
 
@@ -70,7 +71,7 @@ fn rises_to(pairs: bool, t: &[u64], bytes: &[u8], at: usize) -> bool
 
 // Where the good row at a place ends, below the next row unless it is the last; 0 where there is none.
 fn row_end(k: RowKind, last: bool, bytes: &[u8], at: usize, out: &mut [u64]) -> usize
-    requires { ⌜ Whole (now bytes) × (length (now out) ≡ widthOf k) ⌝ }
+    requires { ⌜ (length (now bytes) % 8 ≡ 0) × (length (now out) ≡ widthOf k) ⌝ }
     ensures { λ r. ⌜ ((ws : List ℕ) → AsWords (now (bytes .entry)) ws → TellsRow k last ws at r) ⌝ }
 {
     let e = unpack_row(k, bytes, at, out);
@@ -91,7 +92,7 @@ fn row_end(k: RowKind, last: bool, bytes: &[u8], at: usize, out: &mut [u64]) -> 
 
 // Where the good section at a place ends; 0 where there is none.
 fn section_end(k: RowKind, cap: usize, bytes: &[u8], at: usize) -> usize
-    requires { ⌜ Whole (now bytes) ⌝ }
+    requires { ⌜ length (now bytes) % 8 ≡ 0 ⌝ }
     ensures { λ r. ⌜ ((ws : List ℕ) → AsWords (now (bytes .entry)) ws → TellsSection k cap ws at r) ⌝ }
 {
     if at == 0 {

@@ -29,5 +29,4 @@ pub fn unpack_row(k: RowKind, bytes: &[u8], at: usize, out: &mut [u64]) -> usize
 pub fn unpack_board(bytes: &[u8], board: &mut [u64])
     requires { ⌜ boardSize ≤ length (now board) ⌝ }
     ensures { λ _. ⌜ ((b : Board) → now (bytes .entry) ≡ snapshotOf b → wellFormed b ≡ true → now (board .exit) ≡ encode b ++ drop boardSize (now (board .entry))) ⌝ }
-{
-}
+{}
