@@ -1,2 +1,0 @@
-pub mod AsWords
-pub mod Unpacked
