@@ -41,7 +41,7 @@ module _ {A : Type 0} (f : A → List ℕ) (w : ℕ) (fw : (x : A) → length (f
   unfolding countOf
   counted = min-eq-left fits
 
-  flat-packs : flat w cap (table f w cap xs) ≡ section f xs
+  pub flat-packs : flat w cap (table f w cap xs) ≡ section f xs
   unfolding flat section
   flat-packs =
       let e : 1 + length xs * w ≡ suc (length xs * w) = omega arith in

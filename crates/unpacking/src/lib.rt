@@ -1,0 +1,135 @@
+// A snapshot's rows in full width: bytes to the lent words of a board.
+use board::layout::COMMITTEE_WIDTH;
+use board::layout::LEFT_AT;
+use board::layout::MEMBERS_AT;
+use board::layout::MOST_HALF;
+use board::layout::MOST_MEMBERS;
+use board::layout::MOST_SEATS;
+use board::layout::RESHAPE_WIDTH;
+use board::layout::RIGHT_AT;
+use board::layout::SEAT_WIDTH;
+use board::layout::SEATS_AT;
+use bytes_words::get_words;
+use bytes_words::word_at;
+use tables::clear;
+use wellformed::RowKind;
+ghost use mathlib.Core.Path.{_≡_};
+ghost use mathlib.Core.List.{List};
+ghost use Prim.Native.Nat.{ℕ, _+_, _*_, _/_};
+ghost use lib.ListN.{length, getD};
+ghost use Rattle.board.specs.Layout.{committeeWidth, reshapeWidth};
+ghost use Rattle.snapshot.specs.Packed.{flat, committee, reshape};
+ghost use Rattle.wellformed.specs.Check.{widthOf};
+ghost use Rattle.unpacking.specs.AsWords.{AsWords};
+ghost use Rattle.unpacking.specs.Parts.{PartRead, plain, Wide, Listed};
+ghost use Rattle.unpacking.specs.Unpacked.{GoodRow, packedRow, RowRead};
+
+// ---- Words
+
+// The word at a place of the bytes, and 0 past the last.
+pub fn word(bytes: &[u8], at: usize) -> u64
+    ensures { λ r. ⌜ ((ws : List ℕ) → AsWords (now (bytes .entry)) ws → r ≡ getD ws at 0) ⌝ }
+{
+    if bytes.len() / 8 <= at {
+        return 0;
+    }
+    word_at(bytes, 8 * at)
+}
+
+// A place where no word stands, nor any after it.
+fn past(bytes: &[u8]) -> usize
+    ensures { λ r. ⌜ r ≡ length (now (bytes .entry)) / 8 + 1 ⌝ }
+{
+    bytes.len() / 8 + 1
+}
+
+fn unpack_words(bytes: &[u8], at: usize, out: &mut [u64]) -> usize
+    ensures { λ r. ⌜ ((ws : List ℕ) → AsWords (now (bytes .entry)) ws → PartRead plain (Wide (length (now (out .entry)))) ws (now (out .exit)) at r) ⌝ }
+{
+    let total = bytes.len() / 8;
+    if total < at {
+        return past(bytes);
+    }
+    if total - at < out.len() {
+        return past(bytes);
+    }
+    get_words(bytes, 8 * at, out);
+    at + out.len()
+}
+
+// A count within cap and that many rows of w words; the room past them is cleared.
+fn unpack_list(w: usize, cap: usize, bytes: &[u8], at: usize, out: &mut [u64]) -> usize
+    requires { ⌜ length (now out) ≡ 1 + cap * w ⌝ }
+    ensures { λ r. ⌜ ((ws : List ℕ) → AsWords (now (bytes .entry)) ws → PartRead (flat w cap) (Listed w cap) ws (now (out .exit)) at r) ⌝ }
+{
+    let n = word(bytes, at) as usize;
+    if cap < n {
+        return past(bytes);
+    }
+    let e = 1 + n * w;
+    clear(&mut out[e..]);
+    unpack_words(bytes, at, &mut out[..e])
+}
+
+// ---- Rows
+
+fn unpack_committee(bytes: &[u8], at: usize, out: &mut [u64]) -> usize
+    requires { ⌜ length (now out) ≡ committeeWidth ⌝ }
+    ensures { λ r. ⌜ ((ws : List ℕ) → AsWords (now (bytes .entry)) ws → PartRead committee (GoodRow RowKind.Committees) ws (now (out .exit)) at r) ⌝ }
+{
+    let members = unpack_words(bytes, at, &mut out[0..MEMBERS_AT]);
+    unpack_list(
+        1,
+        MOST_MEMBERS,
+        bytes,
+        members,
+        &mut out[MEMBERS_AT..COMMITTEE_WIDTH],
+    )
+}
+
+fn unpack_reshape(bytes: &[u8], at: usize, out: &mut [u64]) -> usize
+    requires { ⌜ length (now out) ≡ reshapeWidth ⌝ }
+    ensures { λ r. ⌜ ((ws : List ℕ) → AsWords (now (bytes .entry)) ws → PartRead reshape (GoodRow RowKind.Reshapes) ws (now (out .exit)) at r) ⌝ }
+{
+    let seats = unpack_words(bytes, at, &mut out[0..SEATS_AT]);
+    let left = unpack_list(
+        SEAT_WIDTH,
+        MOST_SEATS,
+        bytes,
+        seats,
+        &mut out[SEATS_AT..LEFT_AT],
+    );
+    let right = unpack_list(1, MOST_HALF, bytes, left, &mut out[LEFT_AT..RIGHT_AT]);
+    unpack_list(
+        1,
+        MOST_HALF,
+        bytes,
+        right,
+        &mut out[RIGHT_AT..RESHAPE_WIDTH],
+    )
+}
+
+fn unpack_kind(k: RowKind, bytes: &[u8], at: usize, out: &mut [u64]) -> usize
+    requires { ⌜ length (now out) ≡ widthOf k ⌝ }
+    ensures { λ r. ⌜ ((ws : List ℕ) → AsWords (now (bytes .entry)) ws → PartRead (packedRow k) (GoodRow k) ws (now (out .exit)) at r) ⌝ }
+{
+    match k {
+        RowKind::Machines => unpack_words(bytes, at, out),
+        RowKind::Committees => unpack_committee(bytes, at, out),
+        RowKind::Boundaries => unpack_words(bytes, at, out),
+        RowKind::Rotations => unpack_words(bytes, at, out),
+        RowKind::Reshapes => unpack_reshape(bytes, at, out),
+    }
+}
+
+// The row at a place, in full width; where the next one stands, or 0 where there is none.
+pub fn unpack_row(k: RowKind, bytes: &[u8], at: usize, out: &mut [u64]) -> usize
+    requires { ⌜ length (now out) ≡ widthOf k ⌝ }
+    ensures { λ r. ⌜ ((ws : List ℕ) → AsWords (now (bytes .entry)) ws → RowRead k ws (now (out .exit)) at r) ⌝ }
+{
+    let r = unpack_kind(k, bytes, at, out);
+    if bytes.len() / 8 < r {
+        return 0;
+    }
+    r
+}
