@@ -57,9 +57,6 @@ words-back (suc n) l e h =
 pub bytes-as : (l : List ℕ) → length l % 8 ≡ 0 → AreBytes l → AsWords l (readWords (length l / 8) l)
 bytes-as l e h = let n : length l ≡ length l / 8 * 8 = omega arith in record { bytes = bytes-back (length l / 8) l n h; words = words-back (length l / 8) l n h }
 
-pub as-length : (l ws : List ℕ) → AsWords l ws → length l ≡ length ws * 8
-as-length l ws h = ap length (h .bytes) ∙ bytes-length ws
-
 -- a snapshot has eight bytes to a word
 pub snapshot-eights : (l : List ℕ) → Snapshot l → length l % 8 ≡ 0
 unfolding snapshotOf

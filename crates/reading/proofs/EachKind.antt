@@ -1,5 +1,5 @@
 -- What pass one needs of a row, for each kind.
-use Prim.Native.Nat.{ℕ, _≤_, _<_}
+use Prim.Native.Nat.{ℕ, _≤_}
 use mathlib.Core.Path.{_≡_, refl, sym}
 use mathlib.Core.List.{List, _++_}
 use mathlib.Core.Bool.{true, or-false}
@@ -17,9 +17,7 @@ use Rattle.wellformed.proofs.Tests.{and-is, or-is}
 use Rattle.wellformed.proofs.Decides.{Decides}
 use Rattle.wellformed.proofs.Rows.{machine-decides, committee-decides, boundary-decides, rotation-decides}
 use Rattle.wellformed.proofs.Reshapes.{reshape-decides}
-use Rattle.snapshot.specs.Packed.{rowOf}
-use Rattle.snapshot.proofs.Packs.{committee-packs, reshape-packs}
-use Rattle.unpacking.specs.Unpacked.{RowOf, fullRow, snapRow, roomyRow, packedRow}
+use Rattle.unpacking.specs.Unpacked.{RowOf, fullRow, snapRow, roomyRow}
 use Rattle.reading.specs.Stream.{goodOf, beforeOf}
 
 pub row-decides : (k : RowKind) → Decides (fullRow k) (goodOf k) (widthOf k) (rowOk k)
@@ -36,14 +34,6 @@ row-roomy Boundaries e g = refl
 row-roomy Rotations e g = refl
 row-roomy Reshapes e g = reshape-room e g
 
-pub row-packs : (k : RowKind) (e : RowOf k) → goodOf k e ≡ true → packedRow k (fullRow k e) ≡ snapRow k e
-unfolding rowOf
-row-packs Machines e g = refl
-row-packs Committees e g = committee-packs e (committee-room e g)
-row-packs Boundaries e g = refl
-row-packs Rotations e g = refl
-row-packs Reshapes e g = reshape-packs e (reshape-room e g)
-
 -- a row's first words say the order
 pub row-says : (k : RowKind) (x y : RowOf k) (b : List ℕ) → rises (inPairs k) (fullRow k x) (snapRow k y ++ b) ≡ beforeOf k x y
 unfolding machineWords committeeWords committeeRow boundaryWords rotationWords reshapeWords reshapeHead reshapeRow rotationBefore allPass anyPass
@@ -52,14 +42,6 @@ row-says Committees x y b = or-false _
 row-says Boundaries x y b = or-false _
 row-says Rotations x y b = sym (rw and-is (or-is _ _))
 row-says Reshapes x y b = or-false _
-
-pub row-long : (k : RowKind) (e : RowOf k) → 0 < length (snapRow k e)
-unfolding machineWords committeeWords boundaryWords rotationWords reshapeWords
-row-long Machines e = omega arith
-row-long Committees e = omega arith
-row-long Boundaries e = omega arith
-row-long Rotations e = omega arith
-row-long Reshapes e = omega arith
 
 width-most : (k : RowKind) → widthOf k ≤ reshapeWidth
 width-most Machines = omega arith

@@ -18,8 +18,9 @@ use Rattle.wellformed.specs.declared.RowKind.{RowKind}
 use Rattle.wellformed.specs.Check.{rises, rowOk, inPairs, widthOf}
 use Rattle.wellformed.proofs.Decides.{Words}
 use Rattle.unpacking.specs.Unpacked.{RowOf, fullRow, snapRow, packedRow, RowRead}
+use Rattle.unpacking.proofs.Rows.{packs-row, row-some}
 use Rattle.reading.specs.Stream.{goodOf, beforeOf, RowAt, TellsRow, SectionAt, TellsSection}
-use Rattle.reading.proofs.EachKind.{row-decides, row-roomy, row-packs, row-says, row-long}
+use Rattle.reading.proofs.EachKind.{row-decides, row-roomy, row-says}
 
 -- the words after a part that is known
 pub after : (a e : ℕ) (ws A B : List ℕ) → drop a ws ≡ A ++ B → e ≡ a + length A → drop e ws ≡ B
@@ -48,7 +49,7 @@ module _ (k : RowKind) (last : Bool) (ws : List ℕ) (at : ℕ) where
         (w .0, w .1 ∙ sym (p .next))
 
     pub row-missing : r ≡ 0 → TellsRow k last ws at 0
-    row-missing z = none-told (λ e p. omega (arith, ends e p .1, p .next, row-long k (p .row)))
+    row-missing z = none-told (λ e p. omega (arith, ends e p .1, p .next, row-some k (p .row)))
 
     pub row-bad : rowOk k t ≡ false → TellsRow k last ws at 0
     row-bad h = none-told (λ e p. false≢true (sym h ∙ ap (rowOk k) (ends e p .0) ∙ row-decides k .complete (p .row) (p .good)))
@@ -66,7 +67,7 @@ module _ (k : RowKind) (last : Bool) (ws : List ℕ) (at : ℕ) where
     row-told z v l ok o =
         let d = row-decides k .sound t v l ok in
         let s : drop at ws ≡ snapRow k (d .value) ++ drop r ws =
-        read .read z ∙ ap (λ (u : List ℕ). packedRow k u ++ drop r ws) (d .words) ∙ ap (λ (u : List ℕ). u ++ drop r ws) (row-packs k (d .value) (d .fine)) in
+        read .read z ∙ ap (λ (u : List ℕ). packedRow k u ++ drop r ws) (d .words) ∙ ap (λ (u : List ℕ). u ++ drop r ws) (packs-row k (d .value) (row-roomy k (d .value) (d .fine))) in
         record {
           yes = λ _. record {
             row = d .value;
@@ -222,7 +223,7 @@ module _ (k : RowKind) (cap : ℕ) (ws : List ℕ) (at : ℕ) where
 
       pub section-fails : r ≡ 0 → TellsSection k cap ws at 0
       section-fails z =
-          section-none (λ e _ p. let q = rows-part k ws n a last h l e (left .back e p) in omega (arith, same-end e q, q .first .next, row-long k (q .first .row)))
+          section-none (λ e _ p. let q = rows-part k ws n a last h l e (left .back e p) in omega (arith, same-end e q, q .first .next, row-some k (q .first .row)))
 
       pub section-more : 0 < r → Left (n - 1) r
       section-more z = record {

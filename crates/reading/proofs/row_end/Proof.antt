@@ -3,7 +3,8 @@ use mathlib.Core.Logic.{inl, inr}
 use native.Mathlib.Omega.{arith}
 use borrow.Author.Tests.{not-true, not-false}
 use Rattle.wellformed.proofs.Decides.{words-all}
-use Rattle.reading.proofs.Bytes.{bytes-as, as-length}
+use Rattle.unpacking.proofs.Bytes.{total}
+use Rattle.reading.proofs.Bytes.{bytes-as}
 use Rattle.reading.proofs.Streams.{row-missing, row-bad, row-falls, row-told}
 use borrow.Author.Needs.{needs}
 use Rattle.reading.proofs.row_end.Statement.{statement}
@@ -21,7 +22,7 @@ returns-3 c = λ ws h. row-told _ _ ws _ _ _ (c .before .before .before .before 
 rises-to-requires : tie.Need-rises-to-requires
 rises-to-requires c κs = let g = c .before .before .before .before .before .before .before .before .before .before .before .before .before .args .bytes .now in
     let h = bytes-as g (c .before .before .before .before .before .before .before .before .before .before .before .before .before .pre .0) (λ i. omega (arith, c .before .before .before .before .before .before .before .before .before .before .before .before .shared-slice-known .given i)) in
-    omega (arith, c .before .before .before .before .before .before .before .before .before .unpack-row .ensures _ h .within (omega arith) .1, as-length g _ h)
+    omega (arith, c .before .before .before .before .before .before .before .before .before .unpack-row .ensures _ h .within (omega arith) .1, total h)
 
 returns-4 : tie.Need-returns-4
 returns-4 c = λ ws h. row-falls _ _ ws _ _ _ (c .before .before .before .before .before .before .before .before .before .before .before .unpack-row .ensures ws h) (c .before .before .before .before .if3 .left) (rw (c .before .before .before .in-pairs .ensures) at (sym (c .before .rises-to .ensures ws h) ∙ not-true _ (c .if4 .taken)))

@@ -7,7 +7,7 @@ use native.Mathlib.Omega.{arith}
 use borrow.Author.Needs.{needs}
 use Rattle.board.specs.Layout.{reshapeWidth}
 use Rattle.unpacking.specs.AsWords.{AsWords}
-use Rattle.reading.proofs.Bytes.{as-length}
+use Rattle.unpacking.proofs.Bytes.{total}
 use Rattle.reading.proofs.EachKind.{row-room, row-lent}
 use Rattle.reading.proofs.Streams.{Left, counted, start, section-none, section-over, section-fails, section-more}
 use Rattle.reading.proofs.section_end.Statement.{statement}
@@ -23,7 +23,7 @@ returns : tie.Need-returns Inv-loop μ-loop
 returns c = λ ws h. section-none _ _ ws _ (λ e z p. omega arith)
 
 returns-2 : tie.Need-returns-2 Inv-loop μ-loop
-returns-2 c = λ ws h. section-none _ _ ws _ (λ e z p. omega (arith, counted _ _ ws _ e p .0, as-length _ ws h))
+returns-2 c = λ ws h. section-none _ _ ws _ (λ e z p. omega (arith, counted _ _ ws _ e p .0, total h))
 
 returns-3 : tie.Need-returns-3 Inv-loop μ-loop
 returns-3 c = λ ws h. section-none _ _ ws _ (λ e z p. omega (arith, counted _ _ ws _ e p .1, c .before .word .ensures ws h))
@@ -32,7 +32,7 @@ add-a : tie.Need-add-a Inv-loop μ-loop
 add-a c = omega arith
 
 loop-holds : tie.Need-loop-holds Inv-loop μ-loop
-loop-holds c = (refl, λ ws h. let e = c .before .before .word .ensures ws h in rw e (start _ _ ws _ (omega (arith, as-length _ ws h)) (omega (arith, e))))
+loop-holds c = (refl, λ ws h. let e = c .before .before .word .ensures ws h in rw e (start _ _ ws _ (omega (arith, total h)) (omega (arith, e))))
 
 array-borrow-prefix-row : tie.Need-array-borrow-prefix-row Inv-loop μ-loop
 array-borrow-prefix-row c = row-room (c .before .before .before .before .before .before .before .before .args .k) _ (c .before .loop .row) (c .before .before .width .ensures) (c .before .loop .inv .0)
