@@ -1,19 +1,20 @@
 -- The settings and the sections, one after another to the end, are a board's snapshot; and such a snapshot is read so.
-use Prim.Native.Nat.{ℕ, zero, suc, _+_, _%_, _≤_, _<_}
+use Prim.Native.Nat.{ℕ, _+_, _%_, _≤_, _<_}
 use mathlib.Core.Path.{_≡_, refl, ap, sym, _∙_}
-use mathlib.Core.List.{List, [], _∷_, _++_, append-nil}
+use mathlib.Core.List.{List, [], _++_, append-nil}
 use mathlib.Core.Option.{Option, none, some}
 use mathlib.Core.Bool.{Bool, true, false, _&&_, false≢true}
 use native.Mathlib.Omega.{arith}
 use borrow.Author.Tests.{eqb-true, eq-eqb}
 use lib.Dec.{eqb}
-use lib.ListN.{length, getD, take, drop, replicate, length-append, length-drop, drop-of-length-le}
+use lib.ListN.{length, take, drop, replicate, length-append, length-drop, take-append-drop, drop-of-length-le}
+use lib.Seq.{take-at, length-take-le}
 use Rattle.types.specs.declared.Answer.the-variants.{Done, NoRoom, NotASnapshot}
 use Rattle.rules.specs.Lists.{_and_, every}
 use Rattle.rules.specs.Board.{Settings, Board, mostMachines, mostCommittees, mostBounds, mostRotations, mostReshapes}
 use Rattle.rules.specs.WellFormed.{isWord, goodList, wellFormed}
 use Rattle.rules.specs.Snapshot.{section, settingsWords, machineWords, committeeWords, boundaryWords, rotationWords, reshapeWords, wordsOf, bytesOf, wordsOfBytes, snapshotOf, readSnapshot}
-use Rattle.rules.proofs.Tests.{all-parts, all-joins, every-join, every-none, every-append}
+use Rattle.rules.proofs.Tests.{all-parts, all-joins, every-append}
 use Rattle.rules.proofs.Snapshot.{words-are-words, bytes-read-back, snapshot-reads-back, snapshot-read-writes}
 use Rattle.tables.specs.Rows.{pad}
 use Rattle.board.specs.Layout.{boardSize, settingsTable, encode}
@@ -21,8 +22,8 @@ use Rattle.wellformed.specs.declared.RowKind.{RowKind}
 use Rattle.wellformed.specs.declared.RowKind.the-variants.{Machines, Committees, Boundaries, Rotations, Reshapes}
 use Rattle.wellformed.specs.Check.{settingsOk}
 use Rattle.wellformed.proofs.Tests.{left-true, right-true, both}
-use Rattle.wellformed.proofs.Decides.{Words, word-at}
-use Rattle.wellformed.proofs.Rows.{gets, gets-is, settings-decides}
+use Rattle.wellformed.proofs.Decides.{Words, words-cut}
+use Rattle.wellformed.proofs.Rows.{settings-decides}
 use Rattle.snapshot.specs.ReadAs.{ReadAs, notSnapshot, tooShort, readAs}
 use Rattle.unpacking.specs.AsWords.{AsWords}
 use Rattle.unpacking.specs.Unpacked.{RowOf, snapRow}
@@ -34,12 +35,8 @@ use Rattle.reading.proofs.Streams.{after}
 -- ---- the settings
 
 -- the first seven words, and zeros in the room for more
-abbrev pub headWords : List ℕ → List ℕ
-headWords ws = gets 0 7 ws ++ replicate 9 0
-
-gets-words : (n i : ℕ) (ws : List ℕ) → Words ws → Words (gets i n ws)
-gets-words zero i ws h = every-none _
-gets-words (suc n) i ws h = every-join _ _ _ (word-at ws i h) (gets-words n (suc i) ws h)
+abbrev headWords : List ℕ → List ℕ
+headWords ws = take 7 ws ++ replicate 9 0
 
 zeros-words : Words (replicate 9 0)
 unfolding every _and_
@@ -57,18 +54,20 @@ pub head-none : (ws : List ℕ) → length ws < 7 → TellsHead ws false
 unfolding settingsWords
 head-none ws l = record { yes = λ h. absurd (false≢true h); held = λ h. absurd (omega (arith, ap length (h .words))) }
 
--- what the code has in its scratch
-pub head-made : (ws : List ℕ) {a b c d e f g : ℕ} → a ≡ getD ws 0 0 → b ≡ getD ws 1 0 → c ≡ getD ws 2 0 → d ≡ getD ws 3 0 → e ≡ getD ws 4 0 → f ≡ getD ws 5 0 → g ≡ getD ws 6 0
-    → a ∷ b ∷ c ∷ d ∷ e ∷ f ∷ g ∷ replicate 9 0 ≡ headWords ws
-head-made ws a b c d e f g = cc
-
-pub head-told : (ws : List ℕ) (r : Bool) → Words ws → 7 ≤ length ws → r ≡ settingsOk (headWords ws) → TellsHead ws r
+pub head-told : (ws : List ℕ) (r : Bool) → Words ws → 7 ≤ length ws → r ≡ settingsOk (take 7 ws ++ replicate 9 0) → TellsHead ws r
 head-told ws r v l e = record {
   yes = λ h.
-      let d = settings-decides .sound (headWords ws) (every-append isWord (gets 0 7 ws) (replicate 9 0) (gets-words 7 0 ws v) zeros-words) refl (sym e ∙ h) in
-      record { settings = d .value; good = d .fine; words = gets-is 7 0 ws l ∙ ap (λ (u : List ℕ). u ++ drop 7 ws) (ap (take 7) (d .words) ∙ head-pack (d .value)) };
+      let d = settings-decides .sound (headWords ws) (every-append isWord (take 7 ws) (replicate 9 0) (words-cut 7 ws v .0) zeros-words) (length-append (take 7 ws) (replicate 9 0) ∙ omega (arith, seven)) (sym e ∙ h) in
+      record {
+        settings = d .value;
+        good = d .fine;
+        words = sym (take-append-drop 7 ws) ∙ ap (λ (u : List ℕ). u ++ drop 7 ws) (sym (take-at (take 7 ws) (replicate 9 0) 7 seven) ∙ ap (take 7) (d .words) ∙ head-pack (d .value));
+      };
   held = λ h. e ∙ ap settingsOk (ap headWords (h .words) ∙ head-table (h .settings) (drop 7 ws)) ∙ settings-decides .complete (h .settings) (h .good);
 }
+  where
+    seven : length (take 7 ws) ≡ 7
+    seven = length-take-le 7 ws l
 
 -- ---- the board
 

@@ -5,6 +5,7 @@ use board::layout::BOARD_SIZE;
 use board::layout::BOUNDARY_WIDTH;
 use board::layout::COMMITTEE_WIDTH;
 use board::layout::MACHINE_WIDTH;
+use board::layout::MACHINES_AT;
 use board::layout::MOST_BOUNDS;
 use board::layout::MOST_COMMITTEES;
 use board::layout::MOST_MACHINES;
@@ -13,6 +14,7 @@ use board::layout::MOST_ROTATIONS;
 use board::layout::RESHAPE_WIDTH;
 use board::layout::ROTATION_WIDTH;
 use board::layout::SETTINGS_END;
+use bytes_words::get_words;
 use standin::unpack_board;
 use types::Answer;
 use unpacking::unpack_row;
@@ -118,31 +120,15 @@ fn section_end(k: RowKind, cap: usize, bytes: &[u8], at: usize) -> usize
     a
 }
 
-// The count of the settings, the settings, and no more words yet.
+// The settings are tested as a board has them, with zeros in the room for more.
 fn head_ok(bytes: &[u8]) -> bool
     ensures { λ r. ⌜ ((ws : List ℕ) → AsWords (now (bytes .entry)) ws → TellsHead ws r) ⌝ }
 {
     if bytes.len() / 8 < SETTINGS_END {
         return false;
     }
-    let t: [u64; 16] = [
-        word(bytes, 0),
-        word(bytes, 1),
-        word(bytes, 2),
-        word(bytes, 3),
-        word(bytes, 4),
-        word(bytes, 5),
-        word(bytes, 6),
-        0,
-        0,
-        0,
-        0,
-        0,
-        0,
-        0,
-        0,
-        0,
-    ];
+    let mut t: [u64; MACHINES_AT] = [0; MACHINES_AT];
+    get_words(bytes, 0, &mut t[..SETTINGS_END]);
     settings_ok(&t)
 }
 
