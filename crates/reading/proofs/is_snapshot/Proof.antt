@@ -9,7 +9,7 @@ use Rattle.reading.proofs.is_snapshot.Statement.{statement}
 use Rattle.reading.proofs.is_snapshot.Tie as tie
 
 returns : tie.Need-returns
-returns c = pass-odd _ (c .if1 .taken)
+returns c = pass-odd (c .before .before .args .bytes .now) (λ z. omega arith)
 
 returns-2 : tie.Need-returns-2
 returns-2 c = let h = bytes-as (c .before .before .before .before .before .before .before .before .args .bytes .now) (omega arith) (λ i. omega (arith, c .before .before .before .before .before .before .before .shared-slice-known .given i)) in

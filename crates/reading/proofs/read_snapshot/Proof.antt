@@ -1,3 +1,4 @@
+use native.Mathlib.Omega.{arith}
 use borrow.Author.Tests.{not-true, not-false}
 use Rattle.reading.proofs.Boards.{read-refused, read-short, read-done}
 use borrow.Author.Needs.{needs}
@@ -8,7 +9,7 @@ returns : tie.Need-returns
 returns c = read-refused _ _ _ (c .before .is-snapshot .ensures) (not-true _ (c .if1 .taken))
 
 returns-2 : tie.Need-returns-2
-returns-2 c = read-short _ _ (c .before .before .is-snapshot .ensures .yes (not-false _ (c .before .if1 .left))) (c .if2 .taken)
+returns-2 c = read-short _ (c .before .before .before .before .before .args .board .now) (c .before .before .is-snapshot .ensures .yes (not-false _ (c .before .if1 .left))) (omega arith)
 
 returns-3 : tie.Need-returns-3
 returns-3 c = let p = c .before .before .before .before .before .before .is-snapshot .ensures .yes (not-false _ (c .before .before .before .before .before .if1 .left)) in
