@@ -63,7 +63,7 @@ module _ {A : Type 0} {ok : A → Bool} {f : A → List ℕ} (w : ℕ) (fw : (x 
       ∙ ap (drop 1) e
       ∙ pad-is (cap * w) (rowsWords f ys) (omega (arith, rows-length f w fw ys, mul-le-mul-right w m)))
 
-every-yes : {A : Type 0} (xs : List A) → every (λ x. true) xs ≡ true
+pub every-yes : {A : Type 0} (xs : List A) → every (λ x. true) xs ≡ true
 every-yes [] = every-none _
 every-yes (x ∷ xs) = every-join _ _ _ refl (every-yes xs)
 

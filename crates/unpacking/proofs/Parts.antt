@@ -24,7 +24,7 @@ pub ends : (at : ℕ) (ws x y : List ℕ) → drop at ws ≡ x ++ y → 0 < leng
 ends at ws x y e h = omega (arith, length-drop at ws, ap length e, length-append x y)
 
 -- what follows them
-follows : (at m : ℕ) (ws x y : List ℕ) → drop at ws ≡ x ++ y → m ≡ at + length x → drop m ws ≡ y
+pub follows : (at m : ℕ) (ws x y : List ℕ) → drop at ws ≡ x ++ y → m ≡ at + length x → drop m ws ≡ y
 follows at m ws x y e h = ap (λ (k : ℕ). drop k ws) h ∙ sym (drop-drop (length x) at ws) ∙ ap (drop (length x)) e ∙ drop-at x y (length x) refl
 
 first : (at : ℕ) (ws x y : List ℕ) → drop at ws ≡ x ++ y → 0 < length x → getD ws at 0 ≡ getD x 0 0
@@ -183,13 +183,14 @@ pub record Filled (out : List ℕ) (a : ℕ) (xs done : List ℕ) : Type 0 where
 pub filled-none : (out : List ℕ) → Filled out 0 out []
 filled-none out = record { words = refl; size = refl }
 
-pub filled-next : {out : List ℕ} {a : ℕ} {xs done : List ℕ} (k : ℕ) (ys : List ℕ) → Filled out a xs done → a + k ≤ length out → length ys ≡ length (take k (drop a xs))
-    → Filled out (a + k) (putMid a k xs ys) (done ++ ys)
-filled-next {out} {a} {xs} {done} k ys f h l =
+pub filled-next : {out : List ℕ} {a : ℕ} {xs done : List ℕ} (e : ℕ) (ys : List ℕ) → Filled out a xs done → a ≤ e → e ≤ length out → length ys ≡ length (take (e - a) (drop a xs))
+    → Filled out e (putMid a (e - a) xs ys) (done ++ ys)
+filled-next {out} {a} {xs} {done} e ys f m h l =
     let d : drop a xs ≡ drop a out = ap (drop a) (f .words) ∙ drop-at done (drop a out) a (f .size) in
     let t : take a xs ≡ done = ap (take a) (f .words) ∙ take-at done (drop a out) a (f .size) in
-    let n : length ys ≡ k = l ∙ ap (λ (u : List ℕ). length (take k u)) d ∙ length-take-le k (drop a out) (omega (arith, length-drop a out)) in
-    record { words = rw (t, d, drop-drop k a out) (sym (append-assoc done ys (drop (a + k) out))); size = omega (arith, length-append done ys, f .size) }
+    let n : length ys ≡ e - a = l ∙ ap (λ (u : List ℕ). length (take (e - a) u)) d ∙ length-take-le (e - a) (drop a out) (omega (arith, length-drop a out)) in
+    let s : a + (e - a) ≡ e = omega arith in
+    record { words = rw (t, d, drop-drop (e - a) a out, s) (sym (append-assoc done ys (drop e out))); size = omega (arith, length-append done ys, f .size) }
 
 pub filled-all : {out : List ℕ} {a : ℕ} {xs done : List ℕ} → Filled out a xs done → length out ≡ a → xs ≡ done
 filled-all {out} {a} {done} f h = f .words ∙ ap (λ (u : List ℕ). done ++ u) (drop-of-length-le out {i = a} (omega arith)) ∙ append-nil done

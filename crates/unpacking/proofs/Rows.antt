@@ -42,8 +42,8 @@ pub committee-read : (ws out y z : List ℕ) (at m r : ℕ) → length out ≡ c
     → PartRead plain (Wide (length (take 1 out))) ws y at m → PartRead (flat 1 mostMembers) (Listed 1 mostMembers) ws z m r
     → PartRead committee (GoodRow Committees) ws (putMid 1 97 (putMid 0 1 out y) z) at r
 committee-read ws out y z at m r l ly lz u v =
-    let f = filled-next 1 y (filled-none out) (omega arith) ly in
-    let g = filled-next 97 z f (omega arith) lz in
+    let f = filled-next 1 y (filled-none out) (omega arith) (omega arith) ly in
+    let g = filled-next 98 z f (omega arith) (omega arith) lz in
     let e : putMid 1 97 (putMid 0 1 out y) z ≡ y ++ z = filled-all g l in
     subst⁻¹ (λ (t : List ℕ). PartRead committee (GoodRow Committees) ws t at r) e
     (renamed (both 1 (f .size) (lent-words 1 out (omega arith) u) v) (committee-is (y ++ z) (g .size)) committee-good)
@@ -113,10 +113,10 @@ module _ (ws out a b c d : List ℕ) (at m n o r : ℕ) where
       → PartRead (flat 1 mostHalf) (Listed 1 mostHalf) ws c n o → PartRead (flat 1 mostHalf) (Listed 1 mostHalf) ws d o r
       → PartRead reshape (GoodRow Reshapes) ws (putMid 155 49 row3 d) at r
   reshape-read l la lb lc ld ra rb rc rd =
-      let f = filled-next 9 a (filled-none out) (omega arith) la in
-      let g = filled-next 97 b f (omega arith) lb in
-      let h = filled-next 49 c g (omega arith) lc in
-      let i = filled-next 49 d h (omega arith) ld in
+      let f = filled-next 9 a (filled-none out) (omega arith) (omega arith) la in
+      let g = filled-next 106 b f (omega arith) (omega arith) lb in
+      let h = filled-next 155 c g (omega arith) (omega arith) lc in
+      let i = filled-next 204 d h (omega arith) (omega arith) ld in
       let s : ((a ++ b) ++ c) ++ d ≡ a ++ (b ++ (c ++ d)) = simp append-assoc in
       let lb' : length b ≡ 97 = omega (arith, length-append a b, f .size, g .size) in
       let lc' : length c ≡ 49 = omega (arith, length-append (a ++ b) c, g .size, h .size) in
@@ -134,6 +134,13 @@ pub flat-read : {k : RowKind} {ws t : List ℕ} {at r : ℕ} (j : RowKind) (out 
 flat-read {ws} {t} {at} {r} j out e l h same wide q =
     let p : PartRead plain (Wide (widthOf j)) ws t at r = subst (λ (n : ℕ). PartRead plain (Wide n) ws t at r) (l ∙ ap widthOf e) q in
     of-kind e (renamed p (same t) (λ v g. (same v, (h, ap length (g .words) ∙ wide (g .row)))))
+
+pub row-wide : (k : RowKind) (e : RowOf k) → length (fullRow k e) ≡ widthOf k
+row-wide Machines e = machine-wide e
+row-wide Committees e = committee-wide e
+row-wide Boundaries e = boundary-wide e
+row-wide Rotations e = rotation-wide e
+row-wide Reshapes e = reshape-wide e
 
 -- a row without its room is the row in a snapshot
 pub packs-row : (k : RowKind) (e : RowOf k) → roomyRow k e ≡ true → packedRow k (fullRow k e) ≡ snapRow k e
