@@ -27,10 +27,10 @@ use Rattle.wellformed.proofs.Rows.{settings-decides}
 use Rattle.snapshot.specs.ReadAs.{ReadAs, notSnapshot, tooShort, readAs}
 use Rattle.unpacking.specs.AsWords.{AsWords}
 use Rattle.unpacking.specs.Unpacked.{RowOf, snapRow}
+use Rattle.unpacking.proofs.Parts.{follows}
 use Rattle.reading.specs.Told.{Snapshot, TellsSnapshot}
 use Rattle.reading.specs.Stream.{goodOf, beforeOf, TellsSection, HeadAt, TellsHead}
 use Rattle.reading.proofs.Bytes.{snapshot-eights}
-use Rattle.reading.proofs.Streams.{after}
 
 -- ---- the settings
 
@@ -81,7 +81,7 @@ reaches : (k : RowKind) (cap : ℕ) (ws rest : List ℕ) (at r : ℕ) (xs : List
     → drop at ws ≡ section (snapRow k) xs ++ rest → Reached k ws rest at r xs
 reaches k cap ws rest at r xs t h g w =
     let e = at + length (section (snapRow k) xs) in
-    let p : drop e ws ≡ rest = after at e ws (section (snapRow k) xs) rest w refl in
+    let p : drop e ws ≡ rest = follows at e ws (section (snapRow k) xs) rest w refl in
     let q : r ≡ e = t .held e h (record { rows = xs; good = g; words = w ∙ ap (λ (u : List ℕ). section (snapRow k) xs ++ u) (sym p); next = refl }) in
     record { end = q; past = ap (λ (n : ℕ). drop n ws) q ∙ p; more = omega arith }
 

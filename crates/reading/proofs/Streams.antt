@@ -9,7 +9,7 @@ use native.Mathlib.Numerals.{add-one}
 use borrow.Author.Tests.{leb-true, le-leb, eqb-true, eq-eqb}
 use lib.Dec.{eqb}
 use lib.ListN.{length, getD, drop, length-append, length-drop}
-use lib.Seq.{drop-at, drop-cons, drop-drop, getD-drop}
+use lib.Seq.{drop-cons, getD-drop}
 use Rattle.rules.specs.Lists.{every}
 use Rattle.rules.specs.WellFormed.{rising, goodList}
 use Rattle.rules.specs.Snapshot.{rowsWords, section}
@@ -18,13 +18,10 @@ use Rattle.wellformed.specs.declared.RowKind.{RowKind}
 use Rattle.wellformed.specs.Check.{rises, rowOk, inPairs, widthOf}
 use Rattle.wellformed.proofs.Decides.{Words}
 use Rattle.unpacking.specs.Unpacked.{RowOf, fullRow, snapRow, packedRow, RowRead}
+use Rattle.unpacking.proofs.Parts.{follows}
 use Rattle.unpacking.proofs.Rows.{packs-row, row-some}
 use Rattle.reading.specs.Stream.{goodOf, beforeOf, RowAt, TellsRow, SectionAt, TellsSection}
 use Rattle.reading.proofs.EachKind.{row-decides, row-roomy, row-says}
-
--- the words after a part that is known
-pub after : (a e : ℕ) (ws A B : List ℕ) → drop a ws ≡ A ++ B → e ≡ a + length A → drop e ws ≡ B
-after a e ws A B p s = ap (λ (n : ℕ). drop n ws) s ∙ sym (drop-drop (length A) a ws) ∙ ap (drop (length A)) p ∙ drop-at A B (length A) refl
 
 -- a row's order needs two words of the next
 pub rises-two : (pairs : Bool) (t ws : List ℕ) (at a b : ℕ) → a ≡ getD ws at 0 → b ≡ getD ws (at + 1) 0 → rises pairs t (a ∷ b ∷ []) ≡ rises pairs t (drop at ws)
@@ -160,7 +157,7 @@ module _ (k : RowKind) (ws : List ℕ) where
             let m = a + length (snapRow k x) in
             let q = every-parts (goodOf k) x xs g in
             let v : drop a ws ≡ snapRow k x ++ (rowsWords (snapRow k) xs ++ drop e ws) = w ∙ rows-cons x xs (drop e ws) in
-            let f : drop m ws ≡ rowsWords (snapRow k) xs ++ drop e ws = after a m ws (snapRow k x) _ v refl in
+            let f : drop m ws ≡ rowsWords (snapRow k) xs ++ drop e ws = follows a m ws (snapRow k x) _ v refl in
             let b = below x xs m c o f in
             record {
               middle = m;
@@ -189,7 +186,7 @@ module _ (k : RowKind) (cap : ℕ) (ws : List ℕ) (at : ℕ) where
           count = sym c;
           each = g .1 .0;
           order = g .1 .1 .0;
-          words = after at (at + 1) ws (length (p .rows) ∷ []) _ (p .words) refl;
+          words = follows at (at + 1) ws (length (p .rows) ∷ []) _ (p .words) refl;
           next = omega (arith, p .next);
         },
       )

@@ -1,10 +1,5 @@
 // Bytes to the lent words of a board: first whether they are a well-formed board's snapshot, then its words.
-mod standin;
-
 use board::layout::BOARD_SIZE;
-use board::layout::BOUNDARY_WIDTH;
-use board::layout::COMMITTEE_WIDTH;
-use board::layout::MACHINE_WIDTH;
 use board::layout::MACHINES_AT;
 use board::layout::MOST_BOUNDS;
 use board::layout::MOST_COMMITTEES;
@@ -12,12 +7,12 @@ use board::layout::MOST_MACHINES;
 use board::layout::MOST_RESHAPES;
 use board::layout::MOST_ROTATIONS;
 use board::layout::RESHAPE_WIDTH;
-use board::layout::ROTATION_WIDTH;
 use board::layout::SETTINGS_END;
 use bytes_words::get_words;
-use standin::unpack_board;
 use types::Answer;
+use unpacking::unpack_board;
 use unpacking::unpack_row;
+use unpacking::width;
 use unpacking::word;
 use wellformed::RowKind;
 use wellformed::rises;
@@ -33,19 +28,7 @@ ghost use Rattle.unpacking.specs.AsWords.{AsWords};
 ghost use Rattle.reading.specs.Told.{TellsSnapshot};
 ghost use Rattle.reading.specs.Stream.{TellsRow, TellsSection, TellsHead};
 
-// ---- A kind of rows
-
-fn width(k: RowKind) -> usize
-    ensures { λ r. ⌜ r ≡ widthOf k ⌝ }
-{
-    match k {
-        RowKind::Machines => MACHINE_WIDTH,
-        RowKind::Committees => COMMITTEE_WIDTH,
-        RowKind::Boundaries => BOUNDARY_WIDTH,
-        RowKind::Rotations => ROTATION_WIDTH,
-        RowKind::Reshapes => RESHAPE_WIDTH,
-    }
-}
+// ---- Rows
 
 // By shard, then victim.
 fn in_pairs(k: RowKind) -> bool
@@ -59,8 +42,6 @@ fn in_pairs(k: RowKind) -> bool
         RowKind::Reshapes => false,
     }
 }
-
-// ---- Rows
 
 // The first words are below those at a place.
 fn rises_to(pairs: bool, t: &[u64], bytes: &[u8], at: usize) -> bool
