@@ -1,26 +1,23 @@
 -- The board, section by section.
-use Prim.Native.Nat.{ℕ, _+_, _-_, _*_, _≤_}
+use Prim.Native.Nat.{ℕ, _-_, _≤_}
 use mathlib.Core.Path.{_≡_, refl, ap, sym, _∙_}
-use mathlib.Core.List.{List, [], _∷_, _++_, append-assoc, append-nil}
+use mathlib.Core.List.{List, [], _++_, append-assoc, append-nil}
 use mathlib.Core.Bool.{true}
 use native.Mathlib.Omega.{arith}
 use borrow.Rule.Slice.PartMut.{putMid}
-use lib.ListN.{length, take, drop, replicate, length-append, length-drop, length-replicate}
-use lib.Seq.{length-take-le}
+use lib.ListN.{length, take, drop, replicate, length-append, length-replicate}
 use Rattle.rules.specs.Board.{Settings, Board, mostMachines, mostCommittees, mostBounds, mostRotations, mostReshapes}
 use Rattle.rules.specs.WellFormed.{wellFormed}
 use Rattle.rules.specs.Snapshot.{section, settingsWords, machineWords, committeeWords, boundaryWords, rotationWords, reshapeWords, wordsOf, snapshotOf}
 use Rattle.rules.proofs.Snapshot.{words-are-words}
 use Rattle.tables.specs.Rows.{pad}
-use Rattle.tables.proofs.Tables.{pad-is}
 use Rattle.board.specs.Layout.{machinesAt, committeesAt, boundsAt, rotationsAt, reshapesAt, boardSize, settingsTable, encode}
-use Rattle.board.specs.Held.{Fits}
 use Rattle.board.proofs.One.{every-yes, well-formed-fits}
 use Rattle.wellformed.specs.declared.RowKind.the-variants.{Machines, Committees, Boundaries, Rotations, Reshapes}
 use Rattle.unpacking.specs.AsWords.{AsWords}
 use Rattle.unpacking.specs.Parts.{PartRead, plain, Wide}
 use Rattle.unpacking.specs.Unpacked.{TableRead, SettingsRead}
-use Rattle.unpacking.proofs.Parts.{follows, lent-words, Filled, filled-none, filled-next, filled-all}
+use Rattle.unpacking.proofs.Parts.{follows, lent-words, filled-none, filled-next, filled-all}
 
 -- ---- the settings
 

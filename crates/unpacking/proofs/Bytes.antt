@@ -3,7 +3,7 @@ use Prim.Native.Nat.{ℕ, zero, suc, _+_, _*_, _/_, _≤_, _<_}
 use mathlib.Core.Path.{_≡_, refl, ap, sym, _∙_}
 use mathlib.Core.List.{List, [], _∷_, _++_}
 use native.Mathlib.Omega.{arith}
-use lib.ListN.{length, getD, take, drop, length-append, length-drop, take-append-drop}
+use lib.ListN.{length, getD, take, drop, length-drop, take-append-drop}
 use lib.Seq.{drop-at, drop-cons, take-append-le, drop-append-le, length-take-le}
 use Rattle.rules.specs.Snapshot.{bytesOf, valueOfBytes, readWords}
 use Rattle.rules.proofs.SnapshotBytes.{bytes-length, words-back}

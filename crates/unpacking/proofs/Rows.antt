@@ -1,21 +1,20 @@
 -- Rows of each kind, from their parts.
-use Prim.Native.Nat.{ℕ, _+_, _-_, _*_, _≤_, _<_}
+use Prim.Native.Nat.{ℕ, _+_, _≤_, _<_}
 use mathlib.Core.Path.{_≡_, refl, ap, sym, subst, subst⁻¹, _∙_}
-use mathlib.Core.List.{List, [], _∷_, _++_, append-assoc}
-use mathlib.Core.Bool.{Bool, true}
+use mathlib.Core.List.{List, _++_, append-assoc}
+use mathlib.Core.Bool.{true}
 use native.Mathlib.Omega.{arith}
 use borrow.Author.Tests.{leb-true}
 use borrow.Rule.Slice.PartMut.{putMid}
 use lib.ListN.{length, take, drop, length-append, length-drop}
 use lib.Seq.{take-at, drop-at, take-all, drop-drop}
-use Rattle.types.specs.Numbers.{Id}
 use Rattle.rules.specs.Table.{Entry}
 use Rattle.rules.specs.Board.{Reshape, mostMembers, mostSeats, mostHalf}
 use Rattle.rules.specs.Snapshot.{idWords, seatWords, machineWords, committeeWords, boundaryWords, rotationWords, reshapeWords}
 use Rattle.rules.proofs.Tests.{all-parts}
 use Rattle.tables.specs.Rows.{idTable}
 use Rattle.tables.proofs.Tables.{table-length}
-use Rattle.board.specs.Layout.{membersAt, committeeWidth, seatWidth, seatsAt, leftAt, rightAt, reshapeWidth, committeeRow, seatTable, reshapeHead, reshapeRow}
+use Rattle.board.specs.Layout.{committeeWidth, seatWidth, reshapeWidth, committeeRow, seatTable, reshapeHead, reshapeRow}
 use Rattle.board.specs.Held.{roomyCommittee, roomyReshape}
 use Rattle.board.proofs.Widths.{machine-wide, id-wide, committee-wide, boundary-wide, rotation-wide, seat-wide, head-wide, reshape-wide}
 use Rattle.wellformed.specs.declared.RowKind.{RowKind}
@@ -25,7 +24,7 @@ use Rattle.snapshot.specs.Packed.{flat, committee, reshape, rowOf}
 use Rattle.snapshot.proofs.Packs.{committee-packs, reshape-packs}
 use Rattle.unpacking.specs.Parts.{PartRead, plain, Wide, Listed}
 use Rattle.unpacking.specs.Unpacked.{RowOf, fullRow, snapRow, roomyRow, packedRow, GoodRow, RowRead}
-use Rattle.unpacking.proofs.Parts.{ends, lent-words, table-listed, both, renamed, Filled, filled-none, filled-next, filled-all}
+use Rattle.unpacking.proofs.Parts.{ends, lent-words, table-listed, both, renamed, filled-none, filled-next, filled-all}
 
 -- ---- a committee
 

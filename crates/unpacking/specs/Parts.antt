@@ -6,7 +6,7 @@ use lib.ListN.{length, getD, drop}
 use Rattle.tables.specs.Rows.{pad}
 use Rattle.snapshot.specs.Packed.{flat}
 
--- what a read at word `at` of the words ws leaves in t, and its answer r: the next part's place, or one past the words where there is no part
+-- what a read at word `at` of the words ws leaves in t, and its answer r: the next part's place, or one past the last word where there is no part
 -- pack: the part without its room; good: what the part may be
 pub record PartRead (pack : List ℕ → List ℕ) (good : List ℕ → Type 0) (ws t : List ℕ) (at r : ℕ) : Type 0 where
   pub read : r ≤ length ws → (at ≤ r) × (drop at ws ≡ pack t ++ drop r ws)

@@ -62,6 +62,7 @@ fn past(bytes: &[u8]) -> usize
     bytes.len() / 8 + 1
 }
 
+// As many words as `out` has room for; where they are not all there, no word, and a place past the last.
 fn unpack_words(bytes: &[u8], at: usize, out: &mut [u64]) -> usize
     ensures { λ r. ⌜ ((ws : List ℕ) → AsWords (now (bytes .entry)) ws → PartRead plain (Wide (length (now (out .entry)))) ws (now (out .exit)) at r) ⌝ }
 {
@@ -178,13 +179,13 @@ fn unpack_table(k: RowKind, w: usize, cap: usize, bytes: &[u8], at: usize, out: 
     ensures { λ r. ⌜ ((ws : List ℕ) → AsWords (now (bytes .entry)) ws → TableRead k cap ws (now (out .exit)) at r) ⌝ }
 {
     let rows = unpack_words(bytes, at, &mut out[0..1]);
-    let n = out[0] as usize;
-    if cap < n {
+    let count = out[0] as usize;
+    if cap < count {
         return 0;
     }
-    let e = 1 + n * w;
-    let next = unpack_rows(k, w, n, bytes, rows, &mut out[1..e]);
-    clear(&mut out[e..]);
+    let end = 1 + count * w;
+    let next = unpack_rows(k, w, count, bytes, rows, &mut out[1..end]);
+    clear(&mut out[end..]);
     next
 }
 
