@@ -100,7 +100,7 @@ one-words bs ws b h g e =
 
 module _ (bs ws : List ℕ) (as' : AsWords bs ws) (m c b o r : ℕ) (tm : TellsSection Machines mostMachines ws 7 m) (tc : TellsSection Committees mostCommittees ws m c)
     (tb : TellsSection Boundaries mostBounds ws c b) (to : TellsSection Rotations mostRotations ws b o) (tr : TellsSection Reshapes mostReshapes ws o r) where
-  pub board-there : HeadAt ws → r ≡ length ws → Snapshot bs
+  board-there : HeadAt ws → r ≡ length ws → Snapshot bs
   unfolding snapshotOf wordsOf wellFormed settingsWords
   board-there h e =
       let R = tr .yes (omega (arith, ap length (h .words))) in
@@ -121,7 +121,7 @@ module _ (bs ws : List ℕ) (as' : AsWords bs ws) (m c b o r : ℕ) (tm : TellsS
         bytes = as' .bytes ∙ ap bytesOf (h .words ∙ ap (λ (u : List ℕ). settingsWords (v .settings) ++ u) wm);
       }
 
-  pub board-reached : Snapshot bs → HeadAt ws × (r ≡ length ws)
+  board-reached : Snapshot bs → HeadAt ws × (r ≡ length ws)
   unfolding wordsOf wellFormed settingsWords
   board-reached h =
       let v = h .board in

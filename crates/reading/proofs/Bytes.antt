@@ -17,7 +17,7 @@ use Rattle.bytes_words.proofs.Digits.{value-below, part-below}
 use Rattle.unpacking.specs.AsWords.{AsWords}
 use Rattle.reading.specs.Told.{Snapshot}
 
-abbrev pub AreBytes : List ℕ → Type 0
+abbrev AreBytes : List ℕ → Type 0
 AreBytes l = (i : ℕ) → getD l i 0 < 256
 
 digits-back : (l : List ℕ) → AreBytes l → digits (length l) (valueOfBytes l) ≡ l

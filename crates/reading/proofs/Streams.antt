@@ -100,11 +100,11 @@ module _ (k : RowKind) (ws : List ℕ) where
   unfolding rowsWords
   rows-long x xs = length-append (snapRow k x) (rowsWords (snapRow k) xs)
 
-  pub rows-none : (a : ℕ) → RowsAt k 0 ws a a
+  rows-none : (a : ℕ) → RowsAt k 0 ws a a
   unfolding rowsWords rising
   rows-none a = record { rows = []; count = refl; each = every-none _; order = refl; words = refl; next = omega arith }
 
-  pub rows-over : (a e : ℕ) → RowsAt k 0 ws a e → a ≡ e
+  rows-over : (a e : ℕ) → RowsAt k 0 ws a e → a ≡ e
   unfolding rowsWords
   rows-over a e p = go (p .rows) (p .count) (p .next)
     where
@@ -114,7 +114,7 @@ module _ (k : RowKind) (ws : List ℕ) where
 
   module _ (n a : ℕ) (last : Bool) (h : 0 < n) (l : last ≡ eqb n 1) where
     -- a row and those after it
-    pub rows-join : (m e : ℕ) → RowAt k last ws a m → RowsAt k (n - 1) ws m e → RowsAt k n ws a e
+    rows-join : (m e : ℕ) → RowAt k last ws a m → RowsAt k (n - 1) ws m e → RowsAt k n ws a e
     unfolding rising
     rows-join m e p q = record {
       rows = p .row ∷ q .rows;
@@ -134,12 +134,12 @@ module _ (k : RowKind) (ws : List ℕ) where
             ∙ ap (rises (inPairs k) (fullRow k (p .row))) (sym (w ∙ rows-cons y ys (drop e ws))) ∙ s) o
 
     -- the first of them, and those after it
-    pub record Parted (e : ℕ) : Type 0 where
-      pub middle : ℕ
-      pub first : RowAt k last ws a middle
-      pub others : RowsAt k (n - 1) ws middle e
+    record Parted (e : ℕ) : Type 0 where
+      middle : ℕ
+      first : RowAt k last ws a middle
+      others : RowsAt k (n - 1) ws middle e
 
-    pub rows-part : (e : ℕ) → RowsAt k n ws a e → Parted e
+    rows-part : (e : ℕ) → RowsAt k n ws a e → Parted e
     unfolding rising
     rows-part e p = go (p .rows) (p .count) (p .each) (p .order) (p .words) (p .next)
       where

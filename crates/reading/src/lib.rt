@@ -30,7 +30,7 @@ ghost use Rattle.reading.specs.Stream.{TellsRow, TellsSection, TellsHead
 
 // ---- Rows
 
-// By shard, then victim.
+// By shard, then victim; other rows by their first word alone.
 fn in_pairs(k: RowKind) -> bool
     ensures { λ r. ⌜ r ≡ inPairs k ⌝ }
 {
@@ -73,6 +73,8 @@ fn row_end(k: RowKind, last: bool, bytes: &[u8], at: usize, out: &mut [u64]) -> 
     e
 }
 
+// ---- Sections
+
 // Where the good section at a place ends; 0 where there is none.
 fn section_end(k: RowKind, cap: usize, bytes: &[u8], at: usize) -> usize
     requires { ⌜ length (now bytes) % 8 ≡ 0 ⌝ }
@@ -112,6 +114,8 @@ fn head_ok(bytes: &[u8]) -> bool
     get_words(bytes, 0, &mut t[..SETTINGS_END]);
     settings_ok(&t)
 }
+
+// ---- The read
 
 // Whether the bytes, of any length, are a well-formed board's snapshot: one pass, no board.
 pub fn is_snapshot(bytes: &[u8]) -> bool
