@@ -231,11 +231,11 @@ ids-room : (most : ℕ) (l : List Id) → goodIds most l ≡ true → leb (lengt
 unfolding goodIds
 ids-room most l h = all-parts _ h .0
 
-committee-room : (e : Entry (List Id)) → goodCommittee e ≡ true → roomyCommittee e ≡ true
+pub committee-room : (e : Entry (List Id)) → goodCommittee e ≡ true → roomyCommittee e ≡ true
 unfolding goodCommittee roomyCommittee
 committee-room e h = ids-room mostMembers (e .val) (and-parts (isShard (e .key)) _ h .1)
 
-reshape-room : (e : Entry Reshape) → goodReshape e ≡ true → roomyReshape e ≡ true
+pub reshape-room : (e : Entry Reshape) → goodReshape e ≡ true → roomyReshape e ≡ true
 unfolding goodReshape roomyReshape goodList
 reshape-room e h =
     let p = all-parts _ h in

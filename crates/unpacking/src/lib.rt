@@ -189,7 +189,7 @@ fn unpack_table(k: RowKind, w: usize, cap: usize, bytes: &[u8], at: usize, out: 
     next
 }
 
-fn width(k: RowKind) -> usize
+pub fn width(k: RowKind) -> usize
     ensures { λ r. ⌜ r ≡ widthOf k ⌝ }
 {
     match k {
