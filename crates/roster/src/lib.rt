@@ -5,7 +5,7 @@ ghost use mathlib.Core.Path.{_≡_};
 ghost use Rattle.board.specs.Layout.{boardSize};
 ghost use Rattle.rules.specs.Places.{tick, timeOut};
 ghost use Rattle.rules.specs.Reshapes.{markSeatReady, markQuiet};
-ghost use Rattle.roster.specs.Exported.{ExportedStep, ExportedCheck, ExportedWrite};
+ghost use Rattle.roster.specs.Exported.{ExportedStep, ExportedCheck, ExportedWrite, ExportedRead};
 
 // How many words a board is: lend exactly as many.
 #[no_mangle]
@@ -32,6 +32,15 @@ pub extern "C" fn roster_well_formed(board: &[u64]) -> u64
         return 1;
     }
     0
+}
+
+// The board whose snapshot the bytes are, into lent words; words past the board stay as they are.
+#[no_mangle]
+pub extern "C" fn roster_read(snapshot: &[u8], board: &mut [u64]) -> u64
+    ensures { λ r. ⌜ ExportedRead (now (snapshot .entry)) (now (board .entry)) (now (board .exit)) r ⌝ }
+{
+    let answer = reading::read_snapshot(snapshot, board);
+    answer.number()
 }
 
 // The board's snapshot into lent bytes, and how many it has.
