@@ -2,3 +2,5 @@ pub mod Pools
 pub mod Placed
 pub mod Joins
 pub mod Draws
+pub mod Struck
+pub mod Leaves

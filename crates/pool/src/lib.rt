@@ -23,6 +23,7 @@ ghost use Rattle.rules.specs.WellFormed.{wellFormed};
 ghost use Rattle.rules.specs.Table.{stands};
 ghost use Rattle.rules.specs.Moves as moves;
 ghost use Rattle.rules.specs.Moves.{poolOf, place, mayJoin, putOn};
+ghost use Rattle.rules.specs.Places.{leaveSeat};
 ghost use Rattle.rules.specs.Draws.{drawFrom};
 ghost use Rattle.rules.specs.Turns.{poolDraw};
 ghost use Rattle.tables.specs.Rows.{Rising, keyOf, placeOf};
@@ -30,6 +31,8 @@ ghost use Rattle.board.specs.Layout.{boardSize};
 ghost use Rattle.board.specs.Held.{Holds, noMachine};
 ghost use Rattle.pool.specs.Ranks.{HasRank};
 ghost use Rattle.pool.specs.Told.{RowWithin, TellsDraw, TellsTurn};
+
+pub mod exit;
 
 // Whom a draw finds: a machine's row, and the reader moved on; or why it finds none.
 pub enum Found {
@@ -132,6 +135,24 @@ pub fn may_join(ws: &[u64], shard: ShardId, id: ValidatorId) -> bool
     if stands_at(ws, j, shard) {
         if committees::has_member(ws, j, id) {
             return false;
+        }
+        return committees::member_count(ws, j) < MOST_MEMBERS;
+    }
+    committees::count(ws) < MOST_COMMITTEES
+}
+
+// Whether another may join once a machine is off the shard.
+pub fn may_replace(ws: &[u64], shard: ShardId, old: ValidatorId, new: ValidatorId) -> bool
+    requires { ⌜ length (now ws) ≡ boardSize ⌝ }
+    ensures { λ r. ⌜ ((b : Board) → Holds (now (ws .entry)) b → Rising keyOf (b .committees) → r ≡ mayJoin (shard .0) (new .0 ∷ []) (leaveSeat (shard .0) (old .0) b)) ⌝ }
+{
+    let j = committees::place_of(ws, shard);
+    if stands_at(ws, j, shard) {
+        if committees::has_member(ws, j, new) & (new.0 != old.0) {
+            return false;
+        }
+        if committees::has_member(ws, j, old) {
+            return true;
         }
         return committees::member_count(ws, j) < MOST_MEMBERS;
     }
