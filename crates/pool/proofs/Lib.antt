@@ -4,3 +4,4 @@ pub mod Joins
 pub mod Draws
 pub mod Struck
 pub mod Leaves
+pub mod Alone

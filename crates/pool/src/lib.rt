@@ -9,6 +9,7 @@ use sampling::Drawn;
 use sampling::Reader;
 use types::Answer;
 use types::Machine;
+use types::Outcome;
 use types::Place;
 use types::ShardId;
 use types::ValidatorId;
@@ -30,7 +31,7 @@ ghost use Rattle.tables.specs.Rows.{Rising, keyOf, placeOf};
 ghost use Rattle.board.specs.Layout.{boardSize};
 ghost use Rattle.board.specs.Held.{Holds, noMachine};
 ghost use Rattle.pool.specs.Ranks.{HasRank};
-ghost use Rattle.pool.specs.Told.{RowWithin, TellsDraw, TellsTurn};
+ghost use Rattle.pool.specs.Told.{RowWithin, TellsDraw, TellsTurn, toldOf};
 
 pub mod exit;
 
@@ -46,6 +47,26 @@ pub enum Found {
 pub enum Turned {
     Done(u64, Reader),
     Refused(Answer),
+}
+
+impl Turned {
+    // What a step tells that is this turn alone.
+    pub fn told(self) -> Outcome
+        ensures { λ r. ⌜ r ≡ toldOf self ⌝ }
+    {
+        match self {
+            Turned::Done(handled, left) => Outcome {
+                answer: Answer::Done,
+                handled: handled,
+                draws_used: left.at as u64,
+            },
+            Turned::Refused(answer) => Outcome {
+                answer: answer,
+                handled: 0,
+                draws_used: 0,
+            },
+        }
+    }
 }
 
 // How many machines there are, and no more than there is room for.
