@@ -44,7 +44,7 @@ module _ {A : Type 0} where
           rw (eq-eqb (e .key) x (sym p), z (e .val), hidden) (ap (keysWhere f) (update-none x g t (at-below x (suc (e .key)) t (r .1) (omega arith))))
       go (apart p q) ih = rw (ne-eqb (e .key) x (λ o. p (sym o)), ih (rw (holdsAt, q) at h))
 
-  pub key-each : (f : ℕ → A → A) (t : Table A) (i : ℕ) (d : Entry A) → getD (each f t) i d .key ≡ getD t i d .key
+  key-each : (f : ℕ → A → A) (t : Table A) (i : ℕ) (d : Entry A) → getD (each f t) i d .key ≡ getD t i d .key
   unfolding each
   key-each f [] i d = refl
   key-each f (e ∷ t) zero d = refl
@@ -62,7 +62,7 @@ length-struck x (y ∷ l) = go (alike y x) (length-struck x l)
     go (apart p q) ih = rw (q, hit-apart x y (λ e. p (sym e)), zero-add) (omega arith)
 
 -- another is there as before, and the one struck is not
-pub has-struck : (x y : ℕ) (l : List ℕ) → has y (strike x l) ≡ (has y l && not (eqb y x))
+has-struck : (x y : ℕ) (l : List ℕ) → has y (strike x l) ≡ (has y l && not (eqb y x))
 has-struck x y l = go (alike y x) (occ-strike x y l)
   where
     no : (c : Bool) → false ≡ (c && false)

@@ -88,7 +88,7 @@ fn refill(ws: &mut [u64], shard: ShardId, id: ValidatorId, draws: &[u64], at: Re
     }
 }
 
-// A party of a rotation takes it along, and its entrant is the refill.
+// Off a seat: nobody is drawn for a party of a rotation, which goes with it, nor onto a shard that is carved.
 fn exit_seat(ws: &mut [u64], shard: ShardId, id: ValidatorId, draws: &[u64], at: Reader) -> Turned
     requires { ⌜ (length (now ws) ≡ boardSize) × (at .at ≤ length (now draws)) ⌝ }
     ensures { λ r. ⌜ ((b : Board) → Holds (now (ws .entry)) b → wellFormed b ≡ true → says isPooled b (id .0) ≡ false →

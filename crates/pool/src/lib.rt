@@ -175,7 +175,8 @@ pub fn may_replace(ws: &[u64], shard: ShardId, old: ValidatorId, new: ValidatorI
         if committees::has_member(ws, j, old) {
             return true;
         }
-        return committees::member_count(ws, j) < MOST_MEMBERS;
+        let members = committees::member_count(ws, j);
+        return members < MOST_MEMBERS;
     }
     committees::count(ws) < MOST_COMMITTEES
 }
