@@ -4,9 +4,9 @@ use borrow.Author.Needs.{needs}
 use Rattle.rules.specs.Board.{mostReshapes}
 use Rattle.board.specs.Held.{noReshape}
 use Rattle.board.proofs.Keyed.{reshapes-rise}
-use Rattle.marks.proofs.Searches.{past-the-end, another-key, the-key}
-use Rattle.marks.proofs.rows.reshape_row.Statement.{statement}
-use Rattle.marks.proofs.rows.reshape_row.Tie as tie
+use Rattle.rows.proofs.Searches.{past-the-end, another-key, the-key}
+use Rattle.rows.proofs.reshape_row.Statement.{statement}
+use Rattle.rows.proofs.reshape_row.Tie as tie
 
 returns : tie.Need-returns
 returns c = λ b h ok. past-the-end mostReshapes _ noReshape (b .reshapes) (reshapes-rise b ok) (h .fits .reshapes) _ (c .before .place-of .ensures .1 b h (reshapes-rise b ok)) (omega arith)

@@ -1,6 +1,10 @@
-// Where a reshape and a seat stand, by target and by id.
+// Where a row stands, by its key.
+use board::committees;
+use board::layout::MOST_COMMITTEES;
+use board::layout::MOST_MACHINES;
 use board::layout::MOST_RESHAPES;
 use board::layout::MOST_SEATS;
+use board::machines;
 use reshapes::fields;
 use reshapes::seats;
 use types::ShardId;
@@ -9,11 +13,11 @@ ghost use mathlib.Core.Path.{_≡_};
 ghost use mathlib.Core.Bool.{true};
 ghost use Prim.Native.Nat.{_<_};
 ghost use lib.ListN.{length, getD};
-ghost use Rattle.rules.specs.Board.{Board, mostReshapes, mostSeats};
+ghost use Rattle.rules.specs.Board.{Board, mostMachines, mostCommittees, mostReshapes, mostSeats};
 ghost use Rattle.rules.specs.WellFormed.{isTarget, wellFormed};
 ghost use Rattle.board.specs.Layout.{boardSize};
-ghost use Rattle.board.specs.Held.{Holds, noReshape, noSeat};
-ghost use Rattle.marks.specs.Found.{Found};
+ghost use Rattle.board.specs.Held.{Holds, noMachine, noCommittee, noReshape, noSeat};
+ghost use Rattle.rows.specs.Found.{Found};
 
 const LAST_TARGET: u64 = 32767;
 
@@ -22,6 +26,45 @@ pub fn is_target(target: ShardId) -> bool
 {
     let t = target.0;
     (1 <= t) & (t <= LAST_TARGET)
+}
+
+// The row of the machine; 256, past every row, where it has no record.
+pub fn machine_row(board: &[u64], id: ValidatorId) -> usize
+    requires { ⌜ length (now board) ≡ boardSize ⌝ }
+    ensures { λ r. ⌜ ((b : Board) → Holds (now (board .entry)) b → wellFormed b ≡ true → Found mostMachines (id .0) noMachine (b .machines) r) ⌝ }
+{
+    let i = machines::place_of(board, id);
+    if MOST_MACHINES <= i {
+        return MOST_MACHINES;
+    }
+    if machines::count(board) <= i {
+        return MOST_MACHINES;
+    }
+    let machine = machines::at(board, i);
+    let there = machine.id;
+    if there.0 == id.0 {
+        return i;
+    }
+    MOST_MACHINES
+}
+
+// The row of the shard's committee; 24, past every row, where there is none.
+pub fn committee_row(board: &[u64], shard: ShardId) -> usize
+    requires { ⌜ length (now board) ≡ boardSize ⌝ }
+    ensures { λ r. ⌜ ((b : Board) → Holds (now (board .entry)) b → wellFormed b ≡ true → Found mostCommittees (shard .0) noCommittee (b .committees) r) ⌝ }
+{
+    let j = committees::place_of(board, shard);
+    if MOST_COMMITTEES <= j {
+        return MOST_COMMITTEES;
+    }
+    if committees::count(board) <= j {
+        return MOST_COMMITTEES;
+    }
+    let there = committees::shard_at(board, j);
+    if there.0 == shard.0 {
+        return j;
+    }
+    MOST_COMMITTEES
 }
 
 // The row of the target's reshape; 8, past every row, where there is none.

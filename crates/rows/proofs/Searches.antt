@@ -6,7 +6,7 @@ use lib.ListN.{length, getD}
 use Rattle.rules.specs.Table.{Entry, Table}
 use Rattle.tables.specs.Rows.{Rising, keyOf, placeOf}
 use Rattle.tables.proofs.Keys.{at-is-none}
-use Rattle.marks.specs.Found.{Found}
+use Rattle.rows.specs.Found.{Found}
 
 module _ {A : Type 0} (most k : ℕ) (d : Entry A) (t : Table A) (rise : Rising keyOf t) (room : length t ≤ most) (p : ℕ) (is : p ≡ placeOf keyOf k t) where
   pub past-the-end : length t ≤ p → Found most k d t most

@@ -6,9 +6,9 @@ use Rattle.rules.specs.Board.{Seat, mostSeats}
 use Rattle.board.specs.Held.{noSeat}
 use Rattle.board.proofs.Keyed.{seats-rise}
 use Rattle.reshapes.proofs.OfReshapes.{seats-room}
-use Rattle.marks.proofs.Searches.{past-the-end, another-key, the-key}
-use Rattle.marks.proofs.rows.seat_row.Statement.{statement}
-use Rattle.marks.proofs.rows.seat_row.Tie as tie
+use Rattle.rows.proofs.Searches.{past-the-end, another-key, the-key}
+use Rattle.rows.proofs.seat_row.Statement.{statement}
+use Rattle.rows.proofs.seat_row.Tie as tie
 
 returns : tie.Need-returns
 returns c = λ b h ok l. past-the-end mostSeats _ noSeat _ (seats-rise b ok _ l) (seats-room _ b h _ l) _ (c .before .place-of .ensures .1 b h l (seats-rise b ok _ l)) (omega (arith, seats-room _ b h _ l))
