@@ -1,0 +1,3 @@
+// Committees in motion: a rotation opened, resolved, aborted.
+pub mod reads;
+pub mod rotate;
