@@ -1,0 +1,3 @@
+pub mod Closes
+pub mod Walks
+pub mod Aborts

@@ -1,0 +1,3 @@
+// Rotations that end: resolved, or aborted.
+pub mod abort;
+pub mod resolve;
