@@ -11,7 +11,6 @@ use lib.Seq.{drop-cons}
 use Rattle.types.specs.Numbers.{Shard, Id}
 use Rattle.types.specs.Places.{isReady}
 use Rattle.types.specs.declared.Place.{Place}
-use Rattle.types.specs.declared.Place.the-variants.{Short}
 use Rattle.rules.specs.Lists.{_and_, bitOf, count}
 use Rattle.rules.specs.Table.{Table, at, holdsAt}
 use Rattle.rules.specs.Board.{Rotation, split, merge, Board}

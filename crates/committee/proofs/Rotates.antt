@@ -7,11 +7,10 @@ use mathlib.Core.Bool.{Bool, true, false, cond, not, true≢false}
 use native.Mathlib.Omega.{arith}
 use borrow.Author.Tests.{lt-leb}
 use lib.Dec.{eqb, leb, ltb}
-use lib.ListN.{length, getD, drop, length-drop}
+use lib.ListN.{length, getD}
 use Rattle.types.specs.Numbers.{Shard, Id}
 use Rattle.types.specs.Places.{isSeatedOn, drawnTo}
 use Rattle.types.specs.declared.Place.{Place}
-use Rattle.types.specs.declared.Answer.{Answer}
 use Rattle.types.specs.declared.Answer.the-variants.{Done, OutOfRange, VictimUnfit}
 use Rattle.types.specs.declared.Outcome.{Outcome}
 use Rattle.rules.specs.Lists.{_and_, _or_, count, any}
@@ -27,9 +26,10 @@ use Rattle.tables.specs.Rows.{firstWhere, insertAt}
 use Rattle.tables.proofs.Keys.{first-most, at-is, open-is-insertAt}
 use Rattle.board.specs.Held.{Holds, noCommittee}
 use Rattle.board.proofs.Keyed.{committees-rise}
-use Rattle.sampling.specs.declared.Reader.{Reader}
-use Rattle.pool.specs.Told.{Finished}
 use Rattle.steps.specs.Inner.{outcome, Step}
+use Rattle.pool.specs.declared.Turned.{Turned}
+use Rattle.pool.specs.Told.{TellsTurn, toldOf}
+use Rattle.pool.proofs.Alone.{alone-told, alone-left}
 use Rattle.committee.specs.Counted.{counts}
 use Rattle.committee.specs.declared.reads.Counted.the-variants.{InFlight}
 use Rattle.committee.specs.Opened.{RowFor, opened}
@@ -153,13 +153,6 @@ module _ (b : Board) (ok : wellFormed b ≡ true) (after : List ℕ) (r : Outcom
         let z : length draws - length draws ≡ 0 = omega arith in
         record { told = rw (ok, y, n, z) e; left = rw (ok, y, n) h }
 
-    module _ (m : mayRotate s b ≡ true) where
-      pub turn-refused : (a : Answer) → rotateTurn s v draws b ≡ refused a → Holds after b → r ≡ outcome a 0 0 → Step (rotate s v draws) b after r
-      unfolding rotate alone checked
-      turn-refused a t h e = record { told = rw (ok, y, m, t) e; left = rw (ok, y, m, t) h }
-
-      pub turn-done : (n : ℕ) (left : Reader) → Finished draws after (rotateTurn s v draws b) n left → r ≡ outcome Done n (left .at) → Step (rotate s v draws) b after r
-      unfolding rotate alone checked
-      turn-done n left f e =
-          let u : length draws - length (drop (left .at) draws) ≡ left .at = omega (arith, length-drop (left .at) draws, f .read) in
-          record { told = rw (ok, y, m, f .turn, u) e; left = rw (ok, y, m, f .turn) (f .holds) }
+    pub turned : mayRotate s b ≡ true → (t : Turned) → TellsTurn draws after b (rotateTurn s v draws b) t → r ≡ toldOf t → Step (rotate s v draws) b after r
+    unfolding rotate checked
+    turned m t f e = record { told = rw (ok, y, m) (e ∙ alone-told draws after b _ t f); left = rw (ok, y, m) (alone-left draws after b _ t f) }

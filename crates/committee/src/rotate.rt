@@ -170,14 +170,8 @@ pub fn run_shuffle_step_held(
     if !may_rotate(board, shard) {
         return steps::done(0, 0);
     }
-    let turn = rotate_turn(board, shard, machine, draws, Reader::start());
-    match turn {
-        Turned::Done(handled, left) => {
-            let used = left.at;
-            steps::done(handled, used as u64)
-        }
-        Turned::Refused(answer) => steps::refusal(answer),
-    }
+    let turned = rotate_turn(board, shard, machine, draws, Reader::start());
+    turned.told()
 }
 
 pub fn run_shuffle_step(

@@ -1,7 +1,7 @@
 use mathlib.Core.Path.{sym, _∙_}
 use borrow.Author.Tests.{not-true, not-false}
 use borrow.Author.Needs.{needs}
-use Rattle.committee.proofs.Rotates.{no-shard, not-now, turn-refused, turn-done}
+use Rattle.committee.proofs.Rotates.{no-shard, not-now, turned}
 use Rattle.committee.proofs.rotate.run_shuffle_step_held.Statement.{statement}
 use Rattle.committee.proofs.rotate.run_shuffle_step_held.Tie as tie
 
@@ -13,13 +13,7 @@ returns-2 c = λ b h ok. not-now b ok _ _ _ _ _ (sym (c .before .before .before 
 
 returns-3 : tie.Need-returns-3
 returns-3 c = λ b h ok.
-    let t = rw (c .before .before .turn .given .1, c .before .before .before .before .before .before .before .start .ensures) at (c .before .before .before .before .before .before .rotate-turn .ensures b h ok) in
-    turn-done b ok _ _ _ _ _ (sym (c .before .before .before .before .before .before .before .before .before .before .before .before .before .is-shard .ensures) ∙ not-false _ (c .before .before .before .before .before .before .before .before .before .before .before .before .if1 .left)) (sym (c .before .before .before .before .before .before .before .before .before .before .may-rotate .ensures b h ok) ∙ not-false _ (c .before .before .before .before .before .before .before .before .before .if2 .left)) _ _ t (c .done2 .ensures)
-
-returns-4 : tie.Need-returns-4
-returns-4 c = λ b h ok.
-    let t = rw (c .before .before .turn2 .given .1, c .before .before .before .before .before .before .before .start .ensures) at (c .before .before .before .before .before .before .rotate-turn .ensures b h ok) in
-    turn-refused b ok _ _ _ _ _ (sym (c .before .before .before .before .before .before .before .before .before .before .before .before .before .is-shard .ensures) ∙ not-false _ (c .before .before .before .before .before .before .before .before .before .before .before .before .if1 .left)) (sym (c .before .before .before .before .before .before .before .before .before .before .may-rotate .ensures b h ok) ∙ not-false _ (c .before .before .before .before .before .before .before .before .before .if2 .left)) _ (t .0) (t .1) (c .refusal2 .ensures)
+    turned b ok _ _ _ _ _ (sym (c .before .before .before .before .before .before .before .before .before .before .is-shard .ensures) ∙ not-false _ (c .before .before .before .before .before .before .before .before .before .if1 .left)) (sym (c .before .before .before .before .before .before .before .may-rotate .ensures b h ok) ∙ not-false _ (c .before .before .before .before .before .before .if2 .left)) (c .before .before .before .rotate-turn .result) (rw (c .before .before .before .before .start .ensures) at (c .before .before .before .rotate-turn .ensures b h ok)) (c .told .ensures)
 
 pub run-shuffle-step-held-spec : {M : Type 1} → statement M
 run-shuffle-step-held-spec =
@@ -34,11 +28,6 @@ run-shuffle-step-held-spec =
     returns-2
     (λ c κs. search needs)
     (λ c κs. search needs)
-    (λ c. search needs)
     (λ c κs. search needs)
     (λ c. search needs)
-    (λ c κs. search needs)
-    (λ c. search needs)
-    returns-3
-    (λ c. search needs)
-    returns-4)
+    returns-3)
