@@ -1,3 +1,3 @@
-// Committees in motion: a rotation opened, resolved, aborted.
+// Committees and their rotations: what a board is asked, and a rotation opened.
 pub mod reads;
 pub mod rotate;
