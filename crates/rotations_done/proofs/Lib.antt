@@ -1,3 +1,2 @@
 pub mod Closes
 pub mod Walks
-pub mod Aborts

@@ -7,9 +7,9 @@ use lib.ListN.{length}
 use Rattle.rules.specs.Board.{Board, mostRotations}
 use Rattle.rules.specs.WellFormed.{wellFormed}
 use Rattle.board.specs.Held.{Holds}
-use Rattle.rotations_done.proofs.Aborts.{Left, none-left, one-left, all-left}
-use Rattle.rotations_done.proofs.abort.abort_rotations.Statement.{statement}
-use Rattle.rotations_done.proofs.abort.abort_rotations.Tie as tie
+use Rattle.committee.proofs.Aborts.{Left, none-left, one-left, all-left}
+use Rattle.committee.proofs.abort.abort_rotations.Statement.{statement}
+use Rattle.committee.proofs.abort.abort_rotations.Tie as tie
 
 abbrev Inv-loop : tie.InvT-loop
 Inv-loop board₀ shard n i₀ board i = (i ≤ n) × (n ≤ mostRotations) × (length board ≡ length board₀)

@@ -15,7 +15,7 @@ use Rattle.rules.specs.Moves.{place, quit, takeOff, forAll, pooledFrom, isOn, d
 use Rattle.board.specs.Held.{Holds, noRotation}
 use Rattle.moves.proofs.Kept.{taken-well}
 use Rattle.moves.specs.declared.Exit.the-variants.{FromSeat}
-use Rattle.rotations_done.specs.Walked.{entrantLeft}
+use Rattle.committee.specs.Aborted.{entrantLeft}
 
 module _ (s : Shard) (b : Board) (q : Rotation) (after : List ℕ) where
   pub entrant-leaves : q .shard ≡ s → Holds after (takeOff s (pooledFrom (isSeatedOn s)) (q .entrant) b) → Holds after (entrantLeft s q b)

@@ -1,8 +1,8 @@
 use borrow.Author.Needs.{needs}
 use Rattle.shards.specs.Rotations.{rotationOf}
-use Rattle.rotations_done.proofs.Aborts.{entrant-leaves, entrant-stays}
-use Rattle.rotations_done.proofs.abort.take_off_entrant.Statement.{statement}
-use Rattle.rotations_done.proofs.abort.take_off_entrant.Tie as tie
+use Rattle.committee.proofs.Aborts.{entrant-leaves, entrant-stays}
+use Rattle.committee.proofs.abort.take_off_entrant.Statement.{statement}
+use Rattle.committee.proofs.abort.take_off_entrant.Tie as tie
 
 returns : tie.Need-returns
 returns c = λ b h ok l. rw (← c .before .before .before .before .before .before .before .before .at .ensures b h l) (entrant-leaves _ b (rotationOf (c .before .before .before .before .before .before .before .before .at .result)) _ (c .before .before .before .before .if1 .taken) (c .before .before .take-off .ensures b h ok))

@@ -3,8 +3,8 @@ use borrow.Author.Needs.{needs}
 use Rattle.types.specs.Places.{isSeatedOn, isReady}
 use Rattle.shards.specs.Rotations.{rotationOf}
 use Rattle.rotations_done.proofs.Closes.{resolved-is}
-use Rattle.rotations_done.proofs.resolve.is_resolved.Statement.{statement}
-use Rattle.rotations_done.proofs.resolve.is_resolved.Tie as tie
+use Rattle.rotations_done.proofs.is_resolved.Statement.{statement}
+use Rattle.rotations_done.proofs.is_resolved.Tie as tie
 
 returns : tie.Need-returns
 returns c = λ b h ok l.

@@ -11,7 +11,7 @@ ghost use Rattle.rules.specs.WellFormed.{wellFormed};
 ghost use Rattle.rules.specs.Moves.{abortRotations};
 ghost use Rattle.board.specs.Layout.{boardSize};
 ghost use Rattle.board.specs.Held.{Holds, noRotation};
-ghost use Rattle.rotations_done.specs.Walked.{entrantLeft};
+ghost use Rattle.committee.specs.Aborted.{entrantLeft};
 
 // The entrant of the rotation at row i leaves, where the rotation is the shard's.
 fn take_off_entrant(board: &mut [u64], shard: ShardId, i: usize)
