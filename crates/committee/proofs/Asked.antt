@@ -2,40 +2,29 @@
 use Prim.Native.Nat.{ℕ, _+_, _≤_, _<_}
 use mathlib.Core.Path.{_≡_, refl, ap, sym, _∙_}
 use mathlib.Core.List.{List}
-use mathlib.Core.Option.{none}
 use mathlib.Core.Bool.{Bool, true, false, not}
 use native.Mathlib.Numerals.{add-one}
 use borrow.Author.Tests.{eq-eqb, ne-eqb}
 use lib.ListN.{length, getD, drop, drop-of-length-le}
 use lib.Seq.{drop-cons}
-use Rattle.types.specs.Numbers.{Shard, Id}
+use Rattle.types.specs.Numbers.{Shard}
 use Rattle.types.specs.Places.{isReady}
-use Rattle.types.specs.declared.Place.{Place}
 use Rattle.rules.specs.Lists.{_and_, bitOf, count}
-use Rattle.rules.specs.Table.{Table, at, holdsAt}
 use Rattle.rules.specs.Board.{Rotation, split, merge, Board}
 use Rattle.rules.specs.WellFormed.{wellFormed}
 use Rattle.rules.specs.Moves.{says, isKind, reshapeAt}
 use Rattle.rules.proofs.KeptTables.{holds-at}
 use Rattle.tables.proofs.Keys.{at-is}
-use Rattle.board.specs.Held.{noMachine, noReshape}
-use Rattle.board.proofs.Keyed.{machines-rise, reshapes-rise}
+use Rattle.board.specs.Held.{noReshape}
+use Rattle.board.proofs.Keyed.{reshapes-rise}
 use Rattle.moves.proofs.Exiting.{kind-split}
 use Rattle.committee.specs.Counted.{counts}
 use Rattle.committee.specs.declared.reads.Counted.{Counted}
 use Rattle.committee.specs.declared.reads.Counted.the-variants.{Open, InFlight}
 
--- what stands nowhere passes no test
-pub holds-none : {A : Type 0} (k : ℕ) (f : A → Bool) (t : Table A) → at k t ≡ none → holdsAt k f t ≡ false
-unfolding holdsAt
-holds-none k f t n = rw (n, holdsAt)
-
--- ---- a machine, and a reshape
+-- ---- a reshape
 
 module _ (b : Board) (ok : wellFormed b ≡ true) where
-  pub says-at : (x : Id) (i : ℕ) → i < length (b .machines) → getD (b .machines) i noMachine .key ≡ x → (f : Place → Bool) → f (getD (b .machines) i noMachine .val) ≡ says f b x
-  says-at x i l e f = sym (holds-at x f (b .machines) _ (at-is (b .machines) (machines-rise b ok) x i noMachine l e))
-
   pub splits-at : (s : Shard) (i : ℕ) → i < length (b .reshapes) → getD (b .reshapes) i noReshape .key ≡ s → not (isKind merge (getD (b .reshapes) i noReshape .val)) ≡ reshapeAt split s b
   splits-at s i l e = kind-split false _ refl ∙ sym (holds-at s (isKind split) (b .reshapes) _ (at-is (b .reshapes) (reshapes-rise b ok) s i noReshape l e))
 

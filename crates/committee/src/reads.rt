@@ -1,21 +1,17 @@
 // What the steps on rotations ask of a board.
-use board::layout::MOST_MACHINES;
 use board::layout::MOST_RESHAPES;
 use board::machines;
 use reshapes::fields;
 use shards::rotations;
-use types::Place;
 use types::ShardId;
-use types::ValidatorId;
 ghost use mathlib.Core.Path.{_≡_};
-ghost use mathlib.Core.Bool.{Bool, true, false};
+ghost use mathlib.Core.Bool.{true};
 ghost use Prim.Native.Nat.{_≤_, _<_};
 ghost use lib.ListN.{length, getD};
-ghost use Rattle.types.specs.declared.Place as declared;
 ghost use Rattle.rules.specs.Lists.{count};
 ghost use Rattle.rules.specs.Board.{Board, split, mostRotations};
 ghost use Rattle.rules.specs.WellFormed.{wellFormed};
-ghost use Rattle.rules.specs.Moves.{says, reshapeAt};
+ghost use Rattle.rules.specs.Moves.{reshapeAt};
 ghost use Rattle.board.specs.Layout.{boardSize};
 ghost use Rattle.board.specs.Held.{Holds, noRotation};
 ghost use Rattle.committee.specs.Counted.{counts};
@@ -24,19 +20,6 @@ ghost use Rattle.committee.specs.Counted.{counts};
 pub enum Counted {
     Open,
     InFlight,
-}
-
-// The machine's place; one with no record is as good as short of stake, which is neither seated nor ready.
-pub fn place_of(board: &[u64], id: ValidatorId) -> Place
-    requires { ⌜ length (now board) ≡ boardSize ⌝ }
-    ensures { λ r. ⌜ ((b : Board) → Holds (now (board .entry)) b → wellFormed b ≡ true → (f : declared.Place → Bool) → f Place.Short ≡ false → f r ≡ says f b (id .0)) ⌝ }
-{
-    let i = rows::machine_row(board, id);
-    if MOST_MACHINES <= i {
-        return Place::Short;
-    }
-    let m = machines::at(board, i);
-    m.place
 }
 
 pub fn is_splitting(board: &[u64], shard: ShardId) -> bool
@@ -63,7 +46,7 @@ fn counts_at(board: &[u64], which: Counted, shard: ShardId, i: usize) -> bool
     match which {
         Counted::Open => true,
         Counted::InFlight => {
-            let p = place_of(board, r.entrant);
+            let p = rows::place_of(board, r.entrant);
             !p.is_ready()
         }
     }

@@ -79,7 +79,7 @@ fn victim_fit(board: &[u64], shard: ShardId, victim: ValidatorId) -> bool
     requires { ⌜ length (now board) ≡ boardSize ⌝ }
     ensures { λ r. ⌜ ((b : Board) → Holds (now (board .entry)) b → wellFormed b ≡ true → r ≡ victimFit (shard .0) (victim .0) b) ⌝ }
 {
-    let p = reads::place_of(board, victim);
+    let p = rows::place_of(board, victim);
     if !p.is_seated_on(shard) {
         return false;
     }

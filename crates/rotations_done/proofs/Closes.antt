@@ -26,7 +26,7 @@ use Rattle.board.specs.Held.{Holds, noCommittee, noRotation}
 use Rattle.board.proofs.Keyed.{committees-rise, rotations-rise}
 use Rattle.wellformed.proofs.Tests.{and-is}
 use Rattle.shards.proofs.Order.{rotation-goes}
-use Rattle.committee.proofs.Asked.{holds-none}
+use Rattle.rows.proofs.Asked.{holds-none}
 
 pub resolved-is : (b : Board) (q : Rotation) (seated ready : Bool) → seated ≡ says (isSeatedOn (q .shard)) b (q .entrant) → ready ≡ says isReady b (q .entrant) → (seated && ready) ≡ isResolved b q
 unfolding isResolved

@@ -34,7 +34,7 @@ fn is_resolved(board: &[u64], i: usize) -> bool
     ensures { λ r. ⌜ ((b : Board) → Holds (now (board .entry)) b → wellFormed b ≡ true → i < length (b .rotations) → r ≡ isResolved b (getD (b .rotations) i noRotation)) ⌝ }
 {
     let r = rotations::at(board, i);
-    let p = reads::place_of(board, r.entrant);
+    let p = rows::place_of(board, r.entrant);
     let seated = p.is_seated_on(r.shard);
     let ready = p.is_ready();
     seated & ready

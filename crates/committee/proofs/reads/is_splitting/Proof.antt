@@ -1,7 +1,8 @@
 use mathlib.Core.Path.{ap, sym, _∙_}
 use mathlib.Core.Bool.{not}
 use borrow.Author.Needs.{needs}
-use Rattle.committee.proofs.Asked.{holds-none, splits-at}
+use Rattle.rows.proofs.Asked.{holds-none}
+use Rattle.committee.proofs.Asked.{splits-at}
 use Rattle.committee.proofs.reads.is_splitting.Statement.{statement}
 use Rattle.committee.proofs.reads.is_splitting.Tie as tie
 

@@ -1,9 +1,9 @@
 use mathlib.Core.Path.{ap, sym, _∙_}
 use borrow.Author.Needs.{needs}
 use Rattle.types.specs.declared.Machine.{Machine}
-use Rattle.committee.proofs.Asked.{holds-none, says-at}
-use Rattle.committee.proofs.reads.place_of.Statement.{statement}
-use Rattle.committee.proofs.reads.place_of.Tie as tie
+use Rattle.rows.proofs.Asked.{holds-none, says-at}
+use Rattle.rows.proofs.place_of.Statement.{statement}
+use Rattle.rows.proofs.place_of.Tie as tie
 
 returns : tie.Need-returns
 returns c = λ b h ok f e. e ∙ sym (holds-none _ f (b .machines) (c .before .machine-row .ensures b h ok .missing (c .if1 .taken)))
