@@ -3,7 +3,7 @@ use types::ShardId;
 use types::ValidatorId;
 ghost use mathlib.Core.Path.{_≡_};
 ghost use Rattle.board.specs.Layout.{boardSize};
-ghost use Rattle.rules.specs.Places.{tick, timeOut};
+ghost use Rattle.rules.specs.Places.{tick, leave, rotate, resolve, timeOut};
 ghost use Rattle.rules.specs.Reshapes.{markSeatReady, markQuiet};
 ghost use Rattle.roster.specs.Exported.{ExportedStep, ExportedCheck, ExportedWrite, ExportedRead};
 
@@ -97,6 +97,52 @@ pub extern "C" fn roster_mark_quiet(
     ensures { λ r. ⌜ ExportedStep (markQuiet target side) (now (board .entry)) (now (board .exit)) r (now (results .exit)) ⌝ }
 {
     let told = marks::mark_quiet(board, ShardId(target), side);
+    *results = [told.handled, told.draws_used];
+    let answer = told.answer;
+    answer.number()
+}
+
+#[no_mangle]
+pub extern "C" fn roster_leave(
+    board: &mut [u64],
+    machine: u64,
+    draws: &[u64],
+    results: &mut [u64; 2],
+) -> u64
+    ensures { λ r. ⌜ ExportedStep (leave machine (now (draws .entry))) (now (board .entry)) (now (board .exit)) r (now (results .exit)) ⌝ }
+{
+    let told = withdrawals::deactivate_to_insufficient_stake(board, ValidatorId(machine), draws);
+    *results = [told.handled, told.draws_used];
+    let answer = told.answer;
+    answer.number()
+}
+
+#[no_mangle]
+pub extern "C" fn roster_rotate(
+    board: &mut [u64],
+    shard: u64,
+    machine: u64,
+    draws: &[u64],
+    results: &mut [u64; 2],
+) -> u64
+    ensures { λ r. ⌜ ExportedStep (rotate shard machine (now (draws .entry))) (now (board .entry)) (now (board .exit)) r (now (results .exit)) ⌝ }
+{
+    let told = committee::rotate::run_shuffle_step(
+        board,
+        ShardId(shard),
+        ValidatorId(machine),
+        draws,
+    );
+    *results = [told.handled, told.draws_used];
+    let answer = told.answer;
+    answer.number()
+}
+
+#[no_mangle]
+pub extern "C" fn roster_resolve(board: &mut [u64], results: &mut [u64; 2]) -> u64
+    ensures { λ r. ⌜ ExportedStep resolve (now (board .entry)) (now (board .exit)) r (now (results .exit)) ⌝ }
+{
+    let told = rotations_done::resolve_pending_rotations(board);
     *results = [told.handled, told.draws_used];
     let answer = told.answer;
     answer.number()
