@@ -1,3 +1,2 @@
 pub mod Quiets
 pub mod Readies
-pub mod Searches

@@ -22,8 +22,6 @@ ghost use Rattle.board.specs.Leaves.{changeAt};
 ghost use Rattle.board.specs.Permitted.{PermittedStep};
 ghost use Rattle.steps.specs.Inner.{Steps};
 
-pub mod rows;
-
 // ---- A side quiet
 
 // A split has side 0 only.
