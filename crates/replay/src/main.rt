@@ -9,7 +9,8 @@ mod tally;
 
 const FORM: u64 = 1;
 
-const MOST_SERIES: usize = 1048576;
+// So that any file comes to an end.
+const MOST_SERIES: u64 = 1048576;
 
 fn follow_all(fd: i32) {
     if input::word(fd) != FORM {
@@ -17,7 +18,7 @@ fn follow_all(fd: i32) {
         return;
     }
     let mut tally = [0u64; tally::PLACES];
-    let mut left = sums::within(input::word(fd), MOST_SERIES);
+    let mut left = input::word(fd) % MOST_SERIES;
     while 0 < left {
         series::follow(fd, &mut tally);
         left -= 1;

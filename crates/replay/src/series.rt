@@ -5,14 +5,17 @@ use crate::input;
 use crate::sums;
 use crate::tally;
 use crate::tally::PLACES;
+ghost use mathlib.Core.Path.{_≡_};
+ghost use lib.ListN.{length};
 
 const WORDS: usize = 5861;
 
-const ROOM: usize = 65536;
+// Numbers of the file are taken modulo these, so that any file comes to an end.
+const MOST_CALLS: u64 = 65536;
 
-const MOST_DRAWS: usize = 4096;
+const MOST_WORDS: u64 = 8192;
 
-const MOST_CALLS: usize = 65536;
+const MOST_BYTES: u64 = 65536;
 
 // The code of a read, and the places of the first and the last snapshot.
 const READ: u64 = 16;
@@ -21,6 +24,20 @@ const FIRST: u64 = 0;
 
 const LAST: u64 = 17;
 
+// Room for a board, filled with one number.
+fn board_room(fill: u64) -> [u64; WORDS]
+    ensures { λ r. ⌜ 5861 ≡ length r ⌝ }
+{
+    [fill; WORDS]
+}
+
+// Room for the draws of a call.
+fn draws_room() -> [u64; 4096]
+    ensures { λ r. ⌜ 4096 ≡ length r ⌝ }
+{
+    [0; 4096]
+}
+
 // The checksum of the board's snapshot; 0 where the words hold no well-formed board.
 fn sum_of(board: &[u64]) -> u64 {
     let mut snapshot = io::large_buffer();
@@ -28,7 +45,7 @@ fn sum_of(board: &[u64]) -> u64 {
     if roster::roster_write(board, &mut snapshot, &mut length) != 0 {
         return 0;
     }
-    let n = sums::within(length, ROOM);
+    let n = input::bytes_within(length, &snapshot);
     sums::checksum(&snapshot[..n])
 }
 
@@ -39,7 +56,7 @@ fn is_written_as(board: &[u64], bytes: &[u8]) -> bool {
     if roster::roster_write(board, &mut snapshot, &mut length) != 0 {
         return false;
     }
-    let n = sums::within(length, ROOM);
+    let n = input::bytes_within(length, &snapshot);
     check::same(&snapshot[..n], bytes)
 }
 
@@ -56,12 +73,12 @@ fn begins(start: &[u8], board: &mut [u64; WORDS], tally: &mut [u64; PLACES]) -> 
 
 // Reads the bytes into words that stay as they are where it refuses.
 fn reads_as(call: Call, bytes: &[u8], board: &[u64; WORDS]) -> bool {
-    let mut other = [7u64; WORDS];
+    let mut other = board_room(7);
     let answer = roster::roster_read(bytes, &mut other);
     if answer == 0 {
         return (call.answer == 0) & sums::same_words(board, &other);
     }
-    let untouched = [7u64; WORDS];
+    let untouched = board_room(7);
     (call.answer == answer) & sums::same_words(&untouched, &other)
 }
 
@@ -75,7 +92,7 @@ fn reads_again(call: Call, start: &[u8], good: bool, board: &[u64; WORDS]) -> bo
     if roster::roster_write(board, &mut snapshot, &mut length) != 0 {
         return false;
     }
-    let n = sums::within(length, ROOM);
+    let n = input::bytes_within(length, &snapshot);
     reads_as(call, &snapshot[..n], board)
 }
 
@@ -107,14 +124,16 @@ fn follow_call(
     tally: &mut [u64; PLACES],
 ) -> Stand {
     let call = calls::next(fd);
-    let mut draws = [0u64; MOST_DRAWS];
-    let n = sums::within(call.draws, MOST_DRAWS);
-    input::words(fd, &mut draws[..n]);
+    let mut draws = draws_room();
+    let n = input::words(fd, call.draws, &mut draws);
     let sum = input::word(fd);
     let made = at.known & calls::is_there(call.step);
     if !made {
         tally::pass_over(tally, call.step);
-        return Stand { known: at.known & (sum == at.sum), sum: sum };
+        return Stand {
+            known: at.known & (sum == at.sum),
+            sum: sum,
+        };
     }
     let mut same = false;
     if call.step == READ {
@@ -123,7 +142,10 @@ fn follow_call(
         same = makes_as(call, &draws[..n], board, sum);
     }
     tally::add(tally, call.step, same);
-    Stand { known: same, sum: sum }
+    Stand {
+        known: same,
+        sum: sum,
+    }
 }
 
 fn follow_calls(
@@ -133,8 +155,11 @@ fn follow_calls(
     board: &mut [u64; WORDS],
     tally: &mut [u64; PLACES],
 ) -> bool {
-    let mut at = Stand { known: true, sum: sums::checksum(start) };
-    let mut left = sums::within(input::word(fd), MOST_CALLS);
+    let mut at = Stand {
+        known: true,
+        sum: sums::checksum(start),
+    };
+    let mut left = input::word(fd) % MOST_CALLS;
     while 0 < left {
         at = follow_call(fd, start, good, board, at, tally);
         left -= 1;
@@ -143,10 +168,16 @@ fn follow_calls(
 }
 
 // The snapshot after the last call.
-fn end(fd: i32, start: &[u8], good: bool, board: &[u64; WORDS], known: bool, tally: &mut [u64; PLACES]) {
+fn end(
+    fd: i32,
+    start: &[u8],
+    good: bool,
+    board: &[u64; WORDS],
+    known: bool,
+    tally: &mut [u64; PLACES],
+) {
     let mut last = io::large_buffer();
-    let n = 8 * sums::within(input::word(fd), ROOM / 8);
-    input::bytes(fd, &mut last[..n]);
+    let n = input::bytes(fd, input::word(fd) % MOST_WORDS * 8, &mut last);
     if !known {
         tally::pass_over(tally, LAST);
         return;
@@ -159,11 +190,11 @@ fn end(fd: i32, start: &[u8], good: bool, board: &[u64; WORDS], known: bool, tal
 }
 
 pub fn follow(fd: i32, tally: &mut [u64; PLACES]) {
-    let mut board = [0u64; WORDS];
+    let mut board = board_room(0);
     let mut start = io::large_buffer();
-    let n = sums::within(input::word(fd), ROOM - 8);
-    let m = (n + 7) / 8 * 8;
-    input::bytes(fd, &mut start[..m]);
+    let long = input::word(fd) % MOST_BYTES;
+    let m = input::bytes(fd, (long + 7) / 8 * 8, &mut start);
+    let n = input::bytes_within(long, &start);
     let good = begins(&start[..n], &mut board, tally);
     let known = follow_calls(fd, &start[..n], good, &mut board, tally);
     end(fd, &start[..m], good, &board, known, tally);

@@ -1,5 +1,4 @@
 // The checksum of docs/RECORDED.md, and whether words are the same.
-ghost use Prim.Native.Nat.{_≤_};
 
 // Times 1,099,511,628,211, which is 2^40 and 435, modulo 2^64.
 fn times_prime(h: u64) -> u64 {
@@ -32,14 +31,4 @@ pub fn same_words(s: &[u64], t: &[u64]) -> bool {
         i += 1;
     }
     true
-}
-
-// A length from the file, no more than there is room for.
-pub fn within(n: u64, room: usize) -> usize
-    ensures { λ r. ⌜ r ≤ room ⌝ }
-{
-    if (room as u64) < n {
-        return room;
-    }
-    n as usize
 }

@@ -41,7 +41,7 @@ pub fn pass_over(tally: &mut [u64; PLACES], place: u64) {
 fn print_name(place: u64) {
     let out = STDOUT_FILENO;
     match place {
-        0 => io::write_all(out, b"first snapshot"),
+        0 => io::write_all(out, b"snapshot read and written back"),
         1 => io::write_all(out, b"tick"),
         2 => io::write_all(out, b"admit split"),
         3 => io::write_all(out, b"admit merge"),
@@ -58,8 +58,9 @@ fn print_name(place: u64) {
         14 => io::write_all(out, b"resolve"),
         15 => io::write_all(out, b"time out"),
         16 => io::write_all(out, b"read"),
-        _ => io::write_all(out, b"last snapshot"),
-    };
+        _ => io::write_all(out, b"snapshot after the last call"),
+    }
+    ;
 }
 
 fn print_row(tally: &[u64; PLACES], place: usize)

@@ -3,14 +3,14 @@ use mathlib.Core.Path.{_≡_, refl, _∙_}
 use native.Mathlib.Omega.{arith}
 use lib.ListN.{length, length-set}
 use borrow.Author.Needs.{needs}
-use Rattle.replay.proofs.input.words.Statement.{statement}
-use Rattle.replay.proofs.input.words.Tie as tie
+use Rattle.replay.proofs.input.fill.Statement.{statement}
+use Rattle.replay.proofs.input.fill.Tie as tie
 
 abbrev Inv-loop : tie.InvT-loop
-Inv-loop out₀ i₀ out i = length out ≡ length out₀
+Inv-loop fd room₀ i₀ room i = length room ≡ length room₀
 
 abbrev μ-loop : tie.MeasureT-loop
-μ-loop out₀ i₀ out i = length out₀ - i
+μ-loop fd room₀ i₀ room i = length room₀ - i
 
 loop-holds : tie.Need-loop-holds Inv-loop μ-loop
 loop-holds c = refl
@@ -19,13 +19,13 @@ loop-less : tie.Need-loop-less Inv-loop μ-loop
 loop-less c = omega (arith, c .before .before .loop .inv, c .before .loop-test .taken)
 
 loop-again : tie.Need-loop-again Inv-loop μ-loop
-loop-again c = length-set (c .before .before .loop .out) (c .before .before .loop .i) (c .word .result) ∙ c .before .before .loop .inv
+loop-again c = length-set (c .before .before .loop .room) (c .before .before .loop .i) (c .word .result) ∙ c .before .before .loop .inv
 
 same-length : tie.Need-same-length Inv-loop μ-loop
 same-length c = c .before .loop .inv
 
-pub words-spec : {M : Type 1} → statement M
-words-spec =
+pub fill-spec : {M : Type 1} → statement M
+fill-spec =
     tie.close
     (tie.spec
     Inv-loop
