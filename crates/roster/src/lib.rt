@@ -142,7 +142,7 @@ pub extern "C" fn roster_rotate(
 pub extern "C" fn roster_resolve(board: &mut [u64], results: &mut [u64; 2]) -> u64
     ensures { λ r. ⌜ ExportedStep resolve (now (board .entry)) (now (board .exit)) r (now (results .exit)) ⌝ }
 {
-    let told = rotations_done::resolve_pending_rotations(board);
+    let told = resolving::resolve_pending_rotations(board);
     *results = [told.handled, told.draws_used];
     let answer = told.answer;
     answer.number()

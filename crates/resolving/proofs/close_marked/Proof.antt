@@ -8,10 +8,10 @@ use Rattle.rules.specs.Places.{isResolved}
 use Rattle.rules.specs.Board.{Board, mostRotations}
 use Rattle.rules.specs.WellFormed.{wellFormed}
 use Rattle.board.specs.Held.{noRotation, Holds}
-use Rattle.rotations_done.specs.Walked.{Marked}
-use Rattle.rotations_done.proofs.Walks.{Walked, mark-is, walk-begins, walk-turns, walk-ends}
-use Rattle.rotations_done.proofs.close_marked.Statement.{statement}
-use Rattle.rotations_done.proofs.close_marked.Tie as tie
+use Rattle.resolving.specs.Walked.{Marked}
+use Rattle.resolving.proofs.Walks.{Walked, mark-is, walk-begins, walk-turns, walk-ends}
+use Rattle.resolving.proofs.close_marked.Statement.{statement}
+use Rattle.resolving.proofs.close_marked.Tie as tie
 
 abbrev Inv-loop : tie.InvT-loop
 Inv-loop board₀ marks n row₀ i₀ board row i = (i ≤ n) × (n ≤ mostRotations) × (row ≤ i) × (length board ≡ length board₀)

@@ -1,7 +1,7 @@
 use borrow.Author.Needs.{needs}
-use Rattle.rotations_done.proofs.Closes.{seats-nowhere, seats-few, seats-many}
-use Rattle.rotations_done.proofs.has_seats_free.Statement.{statement}
-use Rattle.rotations_done.proofs.has_seats_free.Tie as tie
+use Rattle.resolving.proofs.Closes.{seats-nowhere, seats-few, seats-many}
+use Rattle.resolving.proofs.has_seats_free.Statement.{statement}
+use Rattle.resolving.proofs.has_seats_free.Tie as tie
 
 returns : tie.Need-returns
 returns c = λ b h ok. seats-nowhere _ b (c .before .committee-row .ensures b h ok .missing (c .if1 .taken))

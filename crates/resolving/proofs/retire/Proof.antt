@@ -1,8 +1,8 @@
 use mathlib.Core.Path.{sym, _∙_}
 use borrow.Author.Needs.{needs}
-use Rattle.rotations_done.proofs.Closes.{victim-stays, victim-goes}
-use Rattle.rotations_done.proofs.retire.Statement.{statement}
-use Rattle.rotations_done.proofs.retire.Tie as tie
+use Rattle.resolving.proofs.Closes.{victim-stays, victim-goes}
+use Rattle.resolving.proofs.retire.Statement.{statement}
+use Rattle.resolving.proofs.retire.Tie as tie
 
 returns : tie.Need-returns
 returns c = λ b h ok. victim-stays _ _ b _ (sym (c .before .has-seats-free .ensures b h ok) ∙ c .if1 .taken) h

@@ -2,9 +2,9 @@ use mathlib.Core.Path.{refl, _∙_}
 use borrow.Author.Needs.{needs}
 use Rattle.types.specs.Places.{isSeatedOn, isReady}
 use Rattle.shards.specs.Rotations.{rotationOf}
-use Rattle.rotations_done.proofs.Closes.{resolved-is}
-use Rattle.rotations_done.proofs.is_resolved.Statement.{statement}
-use Rattle.rotations_done.proofs.is_resolved.Tie as tie
+use Rattle.resolving.proofs.Closes.{resolved-is}
+use Rattle.resolving.proofs.is_resolved.Statement.{statement}
+use Rattle.resolving.proofs.is_resolved.Tie as tie
 
 returns : tie.Need-returns
 returns c = λ b h ok l.

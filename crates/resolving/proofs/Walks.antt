@@ -25,7 +25,7 @@ use Rattle.board.specs.Held.{Holds, noRotation}
 use Rattle.board.proofs.Keyed.{rotations-rise}
 use Rattle.shards.proofs.Order.{rotation-goes}
 use Rattle.steps.specs.Inner.{outcome, Step}
-use Rattle.rotations_done.specs.Walked.{Turned}
+use Rattle.resolving.specs.Walked.{Turned}
 
 -- ---- lists
 

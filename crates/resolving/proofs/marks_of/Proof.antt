@@ -11,8 +11,8 @@ use Rattle.rules.specs.Board.{Board, mostRotations}
 use Rattle.rules.specs.WellFormed.{wellFormed}
 use Rattle.rules.specs.Places.{isResolved}
 use Rattle.board.specs.Held.{Holds, noRotation}
-use Rattle.rotations_done.proofs.marks_of.Statement.{statement}
-use Rattle.rotations_done.proofs.marks_of.Tie as tie
+use Rattle.resolving.proofs.marks_of.Statement.{statement}
+use Rattle.resolving.proofs.marks_of.Tie as tie
 
 abbrev Inv-loop : tie.InvT-loop
 Inv-loop board n marks₀ i₀ marks i = (i ≤ n) × (n ≤ mostRotations) × (length marks ≡ mostRotations)

@@ -1,8 +1,8 @@
 use borrow.Author.Needs.{needs}
 use Rattle.shards.specs.Rotations.{rotationOf}
-use Rattle.rotations_done.proofs.Closes.{removed-well, closed-at}
-use Rattle.rotations_done.proofs.close_at.Statement.{statement}
-use Rattle.rotations_done.proofs.close_at.Tie as tie
+use Rattle.resolving.proofs.Closes.{removed-well, closed-at}
+use Rattle.resolving.proofs.close_at.Statement.{statement}
+use Rattle.resolving.proofs.close_at.Tie as tie
 
 returns : tie.Need-returns
 returns c = λ b h ok l. closed-at b ok _ l _ (rotationOf (c .before .before .before .before .before .before .before .before .at .result)) (c .before .before .before .before .before .before .before .before .at .ensures b h l) (c .before .before .retire .ensures _ (c .before .before .before .before .before .before .close .ensures b h l) (removed-well b ok _ l))

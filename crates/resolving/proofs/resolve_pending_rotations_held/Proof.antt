@@ -1,7 +1,7 @@
 use borrow.Author.Needs.{needs}
-use Rattle.rotations_done.proofs.Walks.{resolve-done}
-use Rattle.rotations_done.proofs.resolve_pending_rotations_held.Statement.{statement}
-use Rattle.rotations_done.proofs.resolve_pending_rotations_held.Tie as tie
+use Rattle.resolving.proofs.Walks.{resolve-done}
+use Rattle.resolving.proofs.resolve_pending_rotations_held.Statement.{statement}
+use Rattle.resolving.proofs.resolve_pending_rotations_held.Tie as tie
 
 returns : tie.Need-returns
 returns c = λ b h ok.

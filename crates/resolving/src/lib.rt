@@ -24,7 +24,7 @@ ghost use Rattle.board.specs.Layout.{boardSize};
 ghost use Rattle.board.specs.Held.{Holds, noRotation};
 ghost use Rattle.board.specs.Permitted.{PermittedStep};
 ghost use Rattle.steps.specs.Inner.{Steps};
-ghost use Rattle.rotations_done.specs.Walked.{Marked, Turned};
+ghost use Rattle.resolving.specs.Walked.{Marked, Turned};
 
 // ---- the list
 

@@ -3,8 +3,8 @@ use mathlib.Core.Bool.{false≢true}
 use borrow.Author.Needs.{needs}
 use Rattle.rules.specs.Places.{resolve}
 use Rattle.steps.proofs.Public.{held-wide, step-answers, step-refuses}
-use Rattle.rotations_done.proofs.resolve_pending_rotations.Statement.{statement}
-use Rattle.rotations_done.proofs.resolve_pending_rotations.Tie as tie
+use Rattle.resolving.proofs.resolve_pending_rotations.Statement.{statement}
+use Rattle.resolving.proofs.resolve_pending_rotations.Tie as tie
 
 resolve-pending-rotations-held-requires : tie.Need-resolve-pending-rotations-held-requires
 resolve-pending-rotations-held-requires c κs = held-wide _ (c .before .before .well-formed .ensures .yes (c .before .if1 .taken))

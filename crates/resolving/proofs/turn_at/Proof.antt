@@ -2,8 +2,8 @@ use mathlib.Core.Path.{refl, sym, _∙_}
 use mathlib.Core.Bool.{true≢false}
 use native.Mathlib.Omega.{arith}
 use borrow.Author.Needs.{needs}
-use Rattle.rotations_done.proofs.turn_at.Statement.{statement}
-use Rattle.rotations_done.proofs.turn_at.Tie as tie
+use Rattle.resolving.proofs.turn_at.Statement.{statement}
+use Rattle.resolving.proofs.turn_at.Tie as tie
 
 returns : tie.Need-returns
 returns c = (omega arith, λ b h ok l. record { closed = λ _. (refl, c .before .before .close-at .ensures b h ok l); passed = λ e. absurd (true≢false (sym (c .before .before .before .before .if1 .taken) ∙ e)) })
