@@ -3,5 +3,4 @@ pub mod Placed
 pub mod Joins
 pub mod Draws
 pub mod Struck
-pub mod Leaves
 pub mod Alone

@@ -33,8 +33,6 @@ ghost use Rattle.board.specs.Held.{Holds, noMachine};
 ghost use Rattle.pool.specs.Ranks.{HasRank};
 ghost use Rattle.pool.specs.Told.{RowWithin, TellsDraw, TellsTurn, toldOf};
 
-pub mod exit;
-
 // Whom a draw finds: a machine's row, and the reader moved on; or why it finds none.
 pub enum Found {
     Row(usize, Reader),

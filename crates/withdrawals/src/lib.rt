@@ -1,6 +1,5 @@
 // A machine that is short of stake leaves. The step plans, then applies: every refusal comes before the first write.
 use board::layout::MOST_MACHINES;
-use pool::exit;
 use sampling::Reader;
 use types::Answer;
 use types::Outcome;
@@ -25,7 +24,7 @@ pub fn deactivate_to_insufficient_stake_held(
     if MOST_MACHINES <= i {
         return steps::refusal(Answer::NoRecord);
     }
-    let turned = exit::exit_placement(board, i, draws, Reader::start());
+    let turned = exits::exit_placement(board, i, draws, Reader::start());
     turned.told()
 }
 

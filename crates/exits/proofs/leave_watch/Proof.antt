@@ -1,8 +1,8 @@
 use Rattle.moves.specs.declared.Exit.the-variants.{Short}
 use Rattle.moves.proofs.Kept.{taken-well}
 use borrow.Author.Needs.{needs}
-use Rattle.pool.proofs.exit.leave_watch.Statement.{statement}
-use Rattle.pool.proofs.exit.leave_watch.Tie as tie
+use Rattle.exits.proofs.leave_watch.Statement.{statement}
+use Rattle.exits.proofs.leave_watch.Tie as tie
 
 returns : tie.Need-returns
 returns c = λ b h ok. c .before .before .give-up-seat .ensures _ (c .before .before .before .before .before .before .take-off .ensures b h ok) (taken-well b ok _ Short _)

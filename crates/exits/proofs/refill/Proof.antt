@@ -2,12 +2,12 @@ use mathlib.Core.Path.{refl, ap, sym, _∙_}
 use mathlib.Core.Bool.{false}
 use Rattle.types.specs.declared.Machine.{Machine}
 use Rattle.board.proofs.Keyed.{committees-rise}
 use Rattle.pool.proofs.Draws.{turn-missing, turn-large, turn-nobody, turn-no-room, turn-seats}
 use Rattle.pool.proofs.Struck.{left-rows, left-key, left-well}
-use Rattle.pool.proofs.Leaves.{drawn-left}
+use Rattle.exits.proofs.Leaves.{drawn-left}
 use borrow.Author.Needs.{needs}
-use Rattle.pool.proofs.exit.refill.Statement.{statement}
-use Rattle.pool.proofs.exit.refill.Tie as tie
+use Rattle.exits.proofs.refill.Statement.{statement}
+use Rattle.exits.proofs.refill.Tie as tie
 
 at-requires : tie.Need-at-requires
 at-requires c κs = (c .before .before .before .before .before .before .before .before .pre .0, rw (c .before .before .found .given .1) at (c .before .before .before .before .draw .ensures .0))

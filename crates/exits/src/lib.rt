@@ -1,13 +1,9 @@
 // A machine leaves its place: what is asked before the first write, and what is then written.
-use super::Found;
-use super::Turned;
-use super::draw;
-use super::may_replace;
-use super::put_place;
-use super::seat_drawn;
 use board::layout::MOST_RESHAPES;
 use board::machines;
 use moves::Exit;
+use pool::Found;
+use pool::Turned;
 use reshapes::fields;
 use sampling::Reader;
 use shards::rotations;
@@ -68,13 +64,13 @@ fn refill(ws: &mut [u64], shard: ShardId, id: ValidatorId, draws: &[u64], at: Re
     ensures { λ r. ⌜ ((b : Board) → Holds (now (ws .entry)) b → wellFormed b ≡ true → says isPooled b (id .0) ≡ false →
         TellsTurn (now (draws .entry)) (now (ws .exit)) b (poolDraw (shard .0) false (λ y c. c) (drop (at .at) (now (draws .entry))) (leaveSeat (shard .0) (id .0) b)) r) ⌝ }
 {
-    let found = draw(ws, draws, at);
+    let found = pool::draw(ws, draws, at);
     match found {
         Found::Row(k, left) => {
             let m = machines::at(ws, k);
-            if may_replace(ws, shard, id, m.id) {
+            if pool::may_replace(ws, shard, id, m.id) {
                 leave_seat(ws, shard, id);
-                seat_drawn(ws, shard, k);
+                pool::seat_drawn(ws, shard, k);
                 return Turned::Done(1, left);
             }
             Turned::Refused(Answer::NoRoom)
@@ -123,7 +119,7 @@ pub fn exit_placement(ws: &mut [u64], i: usize, draws: &[u64], at: Reader) -> Tu
             Turned::Done(0, at)
         }
         _ => {
-            put_place(ws, i, p.short());
+            pool::put_place(ws, i, p.short());
             Turned::Done(0, at)
         }
     }

@@ -1,8 +1,8 @@
 use mathlib.Core.Path.{sym, _∙_}
-use Rattle.pool.proofs.Leaves.{turn-party, party-goes, turn-carved, turn-draws, left-rotations}
+use Rattle.exits.proofs.Leaves.{turn-party, party-goes, turn-carved, turn-draws, left-rotations}
 use borrow.Author.Needs.{needs}
-use Rattle.pool.proofs.exit.exit_seat.Statement.{statement}
-use Rattle.pool.proofs.exit.exit_seat.Tie as tie
+use Rattle.exits.proofs.exit_seat.Statement.{statement}
+use Rattle.exits.proofs.exit_seat.Tie as tie
 
 returns : tie.Need-returns
 returns c = λ b h g u.

@@ -1,8 +1,8 @@
 use mathlib.Core.Path.{sym, _∙_}
-use Rattle.pool.proofs.Leaves.{no-reshape, merge-there, split-there}
+use Rattle.exits.proofs.Leaves.{no-reshape, merge-there, split-there}
 use borrow.Author.Needs.{needs}
-use Rattle.pool.proofs.exit.is_carved.Statement.{statement}
-use Rattle.pool.proofs.exit.is_carved.Tie as tie
+use Rattle.exits.proofs.is_carved.Statement.{statement}
+use Rattle.exits.proofs.is_carved.Tie as tie
 
 returns : tie.Need-returns
 returns c = λ b h ok. no-reshape _ b ok _ (c .before .reshape-row .ensures b h ok) (c .if1 .taken)

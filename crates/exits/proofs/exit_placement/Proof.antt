@@ -1,10 +1,10 @@
 use mathlib.Core.Path.{ap, sym, _∙_}
 use Rattle.types.specs.declared.Machine.{Machine}
 use Rattle.board.proofs.Keyed.{machines-rise}
-use Rattle.pool.proofs.Leaves.{seat-not-pooled, from-seat, from-watch, from-elsewhere}
+use Rattle.exits.proofs.Leaves.{seat-not-pooled, from-seat, from-watch, from-elsewhere}
 use borrow.Author.Needs.{needs}
-use Rattle.pool.proofs.exit.exit_placement.Statement.{statement}
-use Rattle.pool.proofs.exit.exit_placement.Tie as tie
+use Rattle.exits.proofs.exit_placement.Statement.{statement}
+use Rattle.exits.proofs.exit_placement.Tie as tie
 
 returns : tie.Need-returns
 returns c = λ b h g l.

@@ -2,8 +2,8 @@ use Rattle.rules.specs.Places.{leaveSeat}
 use Rattle.moves.specs.declared.Exit.the-variants.{Short}
 use Rattle.moves.proofs.Kept.{taken-well}
 use borrow.Author.Needs.{needs}
-use Rattle.pool.proofs.exit.leave_seat.Statement.{statement}
-use Rattle.pool.proofs.exit.leave_seat.Tie as tie
+use Rattle.exits.proofs.leave_seat.Statement.{statement}
+use Rattle.exits.proofs.leave_seat.Tie as tie
 
 returns : tie.Need-returns
 unfolding leaveSeat
