@@ -1,0 +1,2 @@
+// The cohort of a split: drawn from the pool, and sent back.
+pub mod lapse;
