@@ -63,7 +63,7 @@ module _ {A : Type 0} {ok : A → Bool} {f : A → List ℕ} (w : ℕ) (fw : (x 
       ∙ ap (drop 1) e
       ∙ pad-is (cap * w) (rowsWords f ys) (omega (arith, rows-length f w fw ys, mul-le-mul-right w m)))
 
-every-yes : {A : Type 0} (xs : List A) → every (λ x. true) xs ≡ true
+pub every-yes : {A : Type 0} (xs : List A) → every (λ x. true) xs ≡ true
 every-yes [] = every-none _
 every-yes (x ∷ xs) = every-join _ _ _ refl (every-yes xs)
 
@@ -231,11 +231,11 @@ ids-room : (most : ℕ) (l : List Id) → goodIds most l ≡ true → leb (lengt
 unfolding goodIds
 ids-room most l h = all-parts _ h .0
 
-committee-room : (e : Entry (List Id)) → goodCommittee e ≡ true → roomyCommittee e ≡ true
+pub committee-room : (e : Entry (List Id)) → goodCommittee e ≡ true → roomyCommittee e ≡ true
 unfolding goodCommittee roomyCommittee
 committee-room e h = ids-room mostMembers (e .val) (and-parts (isShard (e .key)) _ h .1)
 
-reshape-room : (e : Entry Reshape) → goodReshape e ≡ true → roomyReshape e ≡ true
+pub reshape-room : (e : Entry Reshape) → goodReshape e ≡ true → roomyReshape e ≡ true
 unfolding goodReshape roomyReshape goodList
 reshape-room e h =
     let p = all-parts _ h in

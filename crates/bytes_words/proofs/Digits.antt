@@ -54,7 +54,7 @@ value-below (suc n) [] h b = omega (arith, value-below n [] (omega arith) b)
 value-below zero (x ∷ l) h b = absurd (omega arith)
 value-below (suc n) (x ∷ l) h b = omega (arith, b 0, value-below n l (omega arith) (λ i. b (suc i)))
 
-part-below : (n : ℕ) (l : List ℕ) → ((i : ℕ) → getD l i 0 < 256) → (i : ℕ) → getD (take n l) i 0 < 256
+pub part-below : (n : ℕ) (l : List ℕ) → ((i : ℕ) → getD l i 0 < 256) → (i : ℕ) → getD (take n l) i 0 < 256
 part-below zero l b i = omega arith
 part-below (suc n) [] b i = omega arith
 part-below (suc n) (x ∷ l) b zero = b 0

@@ -41,7 +41,7 @@ module _ {A : Type 0} (f : A → List ℕ) (w : ℕ) (fw : (x : A) → length (f
   unfolding countOf
   counted = min-eq-left fits
 
-  flat-packs : flat w cap (table f w cap xs) ≡ section f xs
+  pub flat-packs : flat w cap (table f w cap xs) ≡ section f xs
   unfolding flat section
   flat-packs =
       let e : 1 + length xs * w ≡ suc (length xs * w) = omega arith in
@@ -67,7 +67,7 @@ settings-pack : (s : Settings) (z : List ℕ) → take 7 (settingsTable s ++ z) 
 unfolding settingsTable settingsWords pad
 settings-pack s z = refl
 
-committee-packs : (e : Entry (List Id)) → roomyCommittee e ≡ true → rowOf Committees (committeeRow e) ≡ committeeWords e
+pub committee-packs : (e : Entry (List Id)) → roomyCommittee e ≡ true → rowOf Committees (committeeRow e) ≡ committeeWords e
 unfolding rowOf committee committeeRow committeeWords roomyCommittee
 committee-packs e h =
     let l : length (idTable mostMembers (e .val)) ≡ 97 = table-length idWords 1 mostMembers (e .val) in
@@ -84,7 +84,7 @@ head-is e = refl
 four : {a b c d x y z w : List ℕ} → a ≡ x → b ≡ y → c ≡ z → d ≡ w → a ++ (b ++ (c ++ d)) ≡ x ++ (y ++ (z ++ w))
 four p q r s = rw (p, q, r, s)
 
-reshape-packs : (e : Entry Reshape) → roomyReshape e ≡ true → rowOf Reshapes (reshapeRow e) ≡ reshapeWords e
+pub reshape-packs : (e : Entry Reshape) → roomyReshape e ≡ true → rowOf Reshapes (reshapeRow e) ≡ reshapeWords e
 unfolding rowOf reshape roomyReshape
 reshape-packs e h =
     let q = all-parts _ h in

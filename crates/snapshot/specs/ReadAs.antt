@@ -1,4 +1,4 @@
--- What a read leaves: the contract for bytes to lent words, which the code of the read is still to meet.
+-- What a read leaves: the contract for bytes to lent words.
 use Prim.Native.Nat.{ℕ, _<_, _≤_}
 use mathlib.Core.Path.{_≡_}
 use mathlib.Core.List.{List, _++_}

@@ -1,0 +1,4 @@
+pub mod EachKind
+pub mod Streams
+pub mod Bytes
+pub mod Boards

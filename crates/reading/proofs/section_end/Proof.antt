@@ -1,0 +1,78 @@
+use Prim.Native.Nat.{ℕ}
+use mathlib.Core.Path.{_≡_, refl, sym, _∙_}
+use mathlib.Core.List.{List}
+use lib.ListN.{length}
+use lib.Seq.{length-front}
+use native.Mathlib.Omega.{arith}
+use borrow.Author.Needs.{needs}
+use Rattle.board.specs.Layout.{reshapeWidth}
+use Rattle.unpacking.specs.AsWords.{AsWords}
+use Rattle.unpacking.proofs.Bytes.{total}
+use Rattle.reading.proofs.EachKind.{row-room, row-lent}
+use Rattle.reading.proofs.Streams.{Left, counted, start, section-none, section-over, section-fails, section-more}
+use Rattle.reading.proofs.section_end.Statement.{statement}
+use Rattle.reading.proofs.section_end.Tie as tie
+
+abbrev Inv-loop : tie.InvT-loop
+Inv-loop k cap bytes at n₀ w row₀ a₀ n row a = (length row ≡ reshapeWidth) × ((ws : List ℕ) → AsWords bytes ws → Left k cap ws at n a)
+
+abbrev μ-loop : tie.MeasureT-loop
+μ-loop k cap bytes at n₀ w row₀ a₀ n row a = n
+
+returns : tie.Need-returns Inv-loop μ-loop
+returns c = λ ws h. section-none _ _ ws _ (λ e z p. omega arith)
+
+returns-2 : tie.Need-returns-2 Inv-loop μ-loop
+returns-2 c = λ ws h. section-none _ _ ws _ (λ e z p. omega (arith, counted _ _ ws _ e p .0, total h))
+
+returns-3 : tie.Need-returns-3 Inv-loop μ-loop
+returns-3 c = λ ws h. section-none _ _ ws _ (λ e z p. omega (arith, counted _ _ ws _ e p .1, c .before .word .ensures ws h))
+
+add-a : tie.Need-add-a Inv-loop μ-loop
+add-a c = omega arith
+
+loop-holds : tie.Need-loop-holds Inv-loop μ-loop
+loop-holds c = (refl, λ ws h. let e = c .before .before .word .ensures ws h in rw e (start _ _ ws _ (omega (arith, total h)) (omega (arith, e))))
+
+array-borrow-prefix-row : tie.Need-array-borrow-prefix-row Inv-loop μ-loop
+array-borrow-prefix-row c = row-room (c .before .before .before .before .before .before .before .before .args .k) _ (c .before .loop .row) (c .before .before .width .ensures) (c .before .loop .inv .0)
+
+slice-aggregate-row-end : tie.Need-slice-aggregate-row-end Inv-loop μ-loop
+slice-aggregate-row-end c = sym (row-lent (c .before .before .before .before .before .before .before .before .before .args .k) _ _ (c .before .before .before .width .ensures) (c .before .before .loop .inv .0))
+
+row-end-requires : tie.Need-row-end-requires Inv-loop μ-loop
+row-end-requires c κs = (c .before .before .before .before .before .before .before .before .before .pre, row-lent (c .before .before .before .before .before .before .before .before .before .args .k) _ _ (c .before .before .before .width .ensures) (c .before .before .loop .inv .0) ∙ c .before .before .before .width .ensures)
+
+returns-4 : tie.Need-returns-4 Inv-loop μ-loop
+returns-4 c = λ ws h. section-fails _ _ ws _ _ _ (c .before .before .before .before .before .loop .inv .1 ws h) _ (c .before .before .before .before .loop-test .taken) refl _ (c .before .before .row-end .ensures ws h) (c .if4 .taken)
+
+loop-again : tie.Need-loop-again Inv-loop μ-loop
+loop-again c = (
+  (let g = c .before .row2 .given in rw length-front (c .before .before .before .before .before .loop .inv .0)),
+  λ ws h. section-more _ _ ws _ _ _ (c .before .before .before .before .before .loop .inv .1 ws h) _ (c .before .before .before .before .loop-test .taken) refl _ (c .before .before .row-end .ensures ws h) (omega arith),
+)
+
+returns-5 : tie.Need-returns-5 Inv-loop μ-loop
+returns-5 c = λ ws h. section-over _ _ ws _ _ _ (c .before .loop .inv .1 ws h) (omega arith) (omega arith)
+
+pub section-end-spec : {M : Type 1} → statement M
+section-end-spec =
+    tie.close
+    (tie.spec
+    Inv-loop
+    μ-loop
+    returns
+    returns-2
+    (λ c κs. search needs)
+    returns-3
+    (λ c κs. search needs)
+    add-a
+    loop-holds
+    array-borrow-prefix-row
+    slice-aggregate-row-end
+    row-end-requires
+    returns-4
+    (λ c. search needs)
+    (λ c. search needs)
+    loop-again
+    returns-5)

@@ -1,0 +1,3 @@
+pub mod AsWords
+pub mod Parts
+pub mod Unpacked
