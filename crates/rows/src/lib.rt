@@ -1,5 +1,6 @@
 // Where a row stands, by its key.
 use board::committees;
+use board::layout::MOST_BOUNDS;
 use board::layout::MOST_COMMITTEES;
 use board::layout::MOST_MACHINES;
 use board::layout::MOST_RESHAPES;
@@ -7,16 +8,20 @@ use board::layout::MOST_SEATS;
 use board::machines;
 use reshapes::fields;
 use reshapes::seats;
+use shards::bounds;
+use types::Place;
 use types::ShardId;
 use types::ValidatorId;
 ghost use mathlib.Core.Path.{_≡_};
-ghost use mathlib.Core.Bool.{true};
+ghost use mathlib.Core.Bool.{Bool, true, false};
 ghost use Prim.Native.Nat.{_<_};
 ghost use lib.ListN.{length, getD};
-ghost use Rattle.rules.specs.Board.{Board, mostMachines, mostCommittees, mostReshapes, mostSeats};
+ghost use Rattle.types.specs.declared.Place as declared;
+ghost use Rattle.rules.specs.Board.{Board, mostMachines, mostCommittees, mostBounds, mostReshapes, mostSeats};
 ghost use Rattle.rules.specs.WellFormed.{isTarget, wellFormed};
+ghost use Rattle.rules.specs.Moves.{says};
 ghost use Rattle.board.specs.Layout.{boardSize};
-ghost use Rattle.board.specs.Held.{Holds, noMachine, noCommittee, noReshape, noSeat};
+ghost use Rattle.board.specs.Held.{Holds, noMachine, noCommittee, noBoundary, noReshape, noSeat};
 ghost use Rattle.rows.specs.Found.{Found};
 
 const LAST_TARGET: u64 = 32767;
@@ -48,6 +53,19 @@ pub fn machine_row(board: &[u64], id: ValidatorId) -> usize
     MOST_MACHINES
 }
 
+// The machine's place; one with no record is as good as short of stake, which is neither seated nor ready.
+pub fn place_of(board: &[u64], id: ValidatorId) -> Place
+    requires { ⌜ length (now board) ≡ boardSize ⌝ }
+    ensures { λ r. ⌜ ((b : Board) → Holds (now (board .entry)) b → wellFormed b ≡ true → (f : declared.Place → Bool) → f Place.Short ≡ false → f r ≡ says f b (id .0)) ⌝ }
+{
+    let i = machine_row(board, id);
+    if MOST_MACHINES <= i {
+        return Place::Short;
+    }
+    let m = machines::at(board, i);
+    m.place
+}
+
 // The row of the shard's committee; 24, past every row, where there is none.
 pub fn committee_row(board: &[u64], shard: ShardId) -> usize
     requires { ⌜ length (now board) ≡ boardSize ⌝ }
@@ -65,6 +83,25 @@ pub fn committee_row(board: &[u64], shard: ShardId) -> usize
         return j;
     }
     MOST_COMMITTEES
+}
+
+// The row of the shard's boundary; 48, past every row, where there is none.
+pub fn bound_row(board: &[u64], shard: ShardId) -> usize
+    requires { ⌜ length (now board) ≡ boardSize ⌝ }
+    ensures { λ r. ⌜ ((b : Board) → Holds (now (board .entry)) b → wellFormed b ≡ true → Found mostBounds (shard .0) noBoundary (b .bounds) r) ⌝ }
+{
+    let i = bounds::place_of(board, shard);
+    if MOST_BOUNDS <= i {
+        return MOST_BOUNDS;
+    }
+    if bounds::count(board) <= i {
+        return MOST_BOUNDS;
+    }
+    let there = bounds::shard_at(board, i);
+    if there.0 == shard.0 {
+        return i;
+    }
+    MOST_BOUNDS
 }
 
 // The row of the target's reshape; 8, past every row, where there is none.
