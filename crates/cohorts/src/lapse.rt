@@ -1,5 +1,4 @@
 // A cohort sent back: struck from the target's committee, and pooled where it observes the target.
-use board::layout::MOST_MACHINES;
 use board::layout::MOST_RESHAPES;
 use board::layout::MOST_SEATS;
 use board::machines;
@@ -9,15 +8,14 @@ use reshapes::seats;
 use types::Answer;
 use types::Outcome;
 use types::ShardId;
-use types::ValidatorId;
 ghost use mathlib.Core.Path.{_≡_};
 ghost use mathlib.Core.Bool.{true};
-ghost use Prim.Native.Nat.{_<_, _≤_};
+ghost use Prim.Native.Nat.{_<_};
 ghost use lib.ListN.{length, getD};
 ghost use Rattle.types.specs.Places.{observes};
 ghost use Rattle.rules.specs.Lists.{count};
 ghost use Rattle.rules.specs.Table.{keysOf};
-ghost use Rattle.rules.specs.Board.{Board, mostReshapes, mostSeats};
+ghost use Rattle.rules.specs.Board.{Board, mostReshapes};
 ghost use Rattle.rules.specs.WellFormed.{wellFormed};
 ghost use Rattle.rules.specs.Moves.{says};
 ghost use Rattle.rules.specs.Reshapes.{released, lapse};
@@ -25,19 +23,6 @@ ghost use Rattle.board.specs.Layout.{boardSize};
 ghost use Rattle.board.specs.Held.{Holds, noReshape};
 ghost use Rattle.board.specs.Permitted.{PermittedStep};
 ghost use Rattle.steps.specs.Inner.{Steps};
-
-fn is_observing(board: &[u64], shard: ShardId, id: ValidatorId) -> bool
-    requires { ⌜ length (now board) ≡ boardSize ⌝ }
-    ensures { λ r. ⌜ ((b : Board) → Holds (now (board .entry)) b → wellFormed b ≡ true → r ≡ says (observes (shard .0)) b (id .0)) ⌝ }
-{
-    let i = rows::machine_row(board, id);
-    if MOST_MACHINES <= i {
-        return false;
-    }
-    let m = machines::at(board, i);
-    let p = m.place;
-    p.observes_shard(shard)
-}
 
 // How many with a seat in the reshape at i observe its target.
 fn observing(board: &[u64], target: ShardId, i: usize) -> u64
@@ -50,7 +35,8 @@ fn observing(board: &[u64], target: ShardId, i: usize) -> u64
     let mut k: usize = 0;
     while k < n {
         let seat = seats::at(board, i, k);
-        r += machines::bit(is_observing(board, target, seat.id));
+        let p = rows::place_of(board, seat.id);
+        r += machines::bit(p.observes_shard(target));
         k += 1;
     }
     r

@@ -47,14 +47,14 @@ unfolding admitSplit admissionFaults
 good-admitSplit t b h = step-keeps Good _ b _ _ h (λ p. admit-finishes split t 1 [] [] b (of-no _ (p .1 .0)) (Rows-none _ _) h)
 
 -- a seat for a child of the target is good
-abbrev IsChild : Shard → Shard → Type 0
+abbrev pub IsChild : Shard → Shard → Type 0
 IsChild t c = (x : Id) → isWord x ≡ true → goodSeat t (entry x (newSeat c)) ≡ true
 
-good-left : (t : Shard) → IsChild t (leftOf t)
+pub good-left : (t : Shard) → IsChild t (leftOf t)
 unfolding goodSeat
 good-left t x w = and-joins _ _ w (or-left _ _ (eqb-same (leftOf t)))
 
-good-right : (t : Shard) → IsChild t (rightOf t)
+pub good-right : (t : Shard) → IsChild t (rightOf t)
 unfolding goodSeat
 good-right t x w = and-joins _ _ w (or-right _ _ (eqb-same (rightOf t)))
 
@@ -130,12 +130,12 @@ good-markQuiet t side b h =
 -- ---- DRAW COHORT
 
 -- a board on which those of a list are still to watch
-record Watching (t : Shard) (l : List Id) (b : Board) : Type 0 where
-  good : Good b
-  joins : Joins t l b
-  seats : (r : Reshape) → at t (b .reshapes) ≡ some r → length (r .seats) + length l ≤ mostSeats
+pub record Watching (t : Shard) (l : List Id) (b : Board) : Type 0 where
+  pub good : Good b
+  pub joins : Joins t l b
+  pub seats : (r : Reshape) → at t (b .reshapes) ≡ some r → length (r .seats) + length l ≤ mostSeats
 
-watch-keeps : (t c : Shard) → IsChild t c → (x : Id) (l : List Id) (b : Board) → Watching t (x ∷ l) b → Watching t l (watch t c x b)
+pub watch-keeps : (t c : Shard) → IsChild t c → (x : Id) (l : List Id) (b : Board) → Watching t (x ∷ l) b → Watching t l (watch t c x b)
 unfolding watch putOn join place occ
 watch-keeps t c g x l b w = record {
   good = good-reshape t add (λ r e f. Fit-seats (put x (newSeat c)) (Rows-within (omega (arith, length-put x (newSeat c) (r .seats), w .seats r e)) (Rows-put x (newSeat c) (g x (w .joins .words x (omega (arith, hit-same x)))) (f .seats))) f) on;
@@ -163,7 +163,7 @@ good-watchAll t ids b w =
     let l : Watching t (drop n ids) (forAll (watch t (leftOf t)) (take n ids) b) = forAll-counts (Watching t) _ (watch-keeps t (leftOf t) (good-left t)) (take n ids) (drop n ids) b (rw take-append-drop w) in
     forAll-all (Watching t) _ (watch-keeps t (rightOf t) (good-right t)) (drop n ids) _ l .good
 
-no-seats : (l : Table Seat) → isEmpty l ≡ true → length l ≡ 0
+pub no-seats : (l : Table Seat) → isEmpty l ≡ true → length l ≡ 0
 unfolding isEmpty
 no-seats [] e = refl
 no-seats (x ∷ l) e = absurd (false≢true e)

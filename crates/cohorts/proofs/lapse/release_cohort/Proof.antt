@@ -1,62 +1,53 @@
+use Prim.Native.Nat.{_-_, _≤_, _<_}
+use mathlib.Core.Path.{_≡_, refl, _∙_}
+use mathlib.Core.Bool.{true}
+use native.Mathlib.Omega.{arith}
+use borrow.Author.Needs.{needs}
+use lib.ListN.{length}
+use Rattle.rules.specs.Board.{Board, mostSeats}
+use Rattle.rules.specs.WellFormed.{wellFormed}
+use Rattle.board.specs.Held.{Holds}
+use Rattle.reshapes.specs.Changes.{seatEntry}
+use Rattle.reshapes.proofs.OfReshapes.{seats-room}
+use Rattle.cohorts.proofs.Lapses.{seatsAt, Gone, none-gone, one-gone, all-gone}
 use Rattle.cohorts.proofs.lapse.release_cohort.Statement.{statement}
 use Rattle.cohorts.proofs.lapse.release_cohort.Tie as tie
-use Rattle.cohorts.proofs.lapse.release_cohort.Reads as reads
-use Rattle.cohorts.proofs.lapse.release_cohort.Lts as lts
-use Rattle.moves.proofs.take_off.Reads as take-off-reads
-use Rattle.reshapes.proofs.seats.at.Reads as at-reads
-use Rattle.reshapes.proofs.seats.clear.Reads as clear-reads
-use Rattle.reshapes.proofs.seats.count.Reads as count-reads
-use Rattle.steps.proofs.rows_within.Reads as rows-within-reads
 
 abbrev Inv-loop : tie.InvT-loop
-Inv-loop board₀ target i n k₀ board k = ?
+Inv-loop board₀ target i n k₀ board k = (k ≤ n) × (n ≤ mostSeats) × (length board ≡ length board₀)
+    × ((b : Board) → Holds board₀ b → wellFormed b ≡ true → i < length (b .reshapes) → (n ≡ length (seatsAt i b)) × Gone (target .0) i b k board)
 
 abbrev μ-loop : tie.MeasureT-loop
-μ-loop board₀ target i n k₀ board k = ?
+μ-loop board₀ target i n k₀ board k = n - k
 
--- src/lapse.rt:65:32
-count-requires : tie.Need-count-requires Inv-loop μ-loop
-count-requires c κs = ?
-
--- src/lapse.rt:65:9
-rows-within-requires : tie.Need-rows-within-requires Inv-loop μ-loop
-rows-within-requires c κs = ?
-
--- src/lapse.rt:67:5
 loop-holds : tie.Need-loop-holds Inv-loop μ-loop
-loop-holds c = ?
+loop-holds c = (
+      omega arith,
+      c .rows-within .ensures .0,
+      refl,
+      λ b h ok l. (c .rows-within .ensures .1 (rw (c .before .count .ensures b h l) (seats-room _ b h _ l)) ∙ c .before .count .ensures b h l, none-gone _ _ b _ h ok),
+    )
 
--- src/lapse.rt:68:13
-at-requires : tie.Need-at-requires Inv-loop μ-loop
-at-requires c κs = ?
-
--- src/lapse.rt:69:9
 take-off-requires : tie.Need-take-off-requires Inv-loop μ-loop
-take-off-requires c κs = ?
+take-off-requires c κs = c .before .before .before .before .loop .inv .2 ∙ c .before .before .before .before .before .before .before .before .before .pre .0
 
--- src/lapse.rt:70:9
-add-k : tie.Need-add-k Inv-loop μ-loop
-add-k c = ?
-
--- src/lapse.rt:67:5
-loop-less : tie.Need-loop-less Inv-loop μ-loop
-loop-less c = ?
-
--- src/lapse.rt:67:5
 loop-again : tie.Need-loop-again Inv-loop μ-loop
-loop-again c = ?
+loop-again c = let a = c .before .before .before .before .before .before .before .loop in (
+      omega arith,
+      a .inv .1,
+      c .before .before .take-off .kept .0 ∙ a .inv .2,
+      λ b h ok l.
+          let t = a .inv .3 b h ok l in
+          (t .0, one-gone _ _ b _ _ (t .1) l _ (omega (arith, t .0)) (seatEntry (c .before .before .before .before .at .result)) (c .before .before .before .before .at .ensures) (c .before .before .take-off .ensures)),
+    )
 
--- src/lapse.rt:72:5
 clear-requires : tie.Need-clear-requires Inv-loop μ-loop
-clear-requires c κs = ?
+clear-requires c κs = (c .before .before .loop .inv .2 ∙ c .before .before .before .before .before .before .before .pre .0, c .before .before .before .before .before .before .before .pre .1)
 
--- src/lapse.rt:60:1
-same-length : tie.Need-same-length Inv-loop μ-loop
-same-length c = ?
-
--- src/lapse.rt:60:1
 returns : tie.Need-returns Inv-loop μ-loop
-returns c = ?
+returns c = λ b h ok l named.
+    let t = c .before .before .before .before .before .loop .inv .3 b h ok l in
+    all-gone _ _ b _ _ (t .1) l _ ok named (omega (arith, t .0)) (c .before .before .clear .ensures)
 
 pub release-cohort-spec : {M : Type 1} → statement M
 release-cohort-spec =
@@ -64,14 +55,14 @@ release-cohort-spec =
     (tie.spec
     Inv-loop
     μ-loop
-    count-requires
-    rows-within-requires
+    (λ c κs. search needs)
+    (λ c κs. search needs)
     loop-holds
-    at-requires
+    (λ c κs. search needs)
     take-off-requires
-    add-k
-    loop-less
+    (λ c. search needs)
+    (λ c. search needs)
     loop-again
     clear-requires
-    same-length
+    (λ c. search needs)
     returns)
