@@ -8,6 +8,7 @@ use native.Mathlib.Omega.{arith}
 use lib.Dec.{leb}
 use lib.ListN.{length, getD, drop, length-drop}
 use lib.Seq.{drop-cons}
+use Rattle.types.specs.Numbers.{Id}
 use Rattle.types.specs.Places.{drawnTo}
 use Rattle.types.specs.declared.Answer.the-variants.{DrawMissing, DrawTooLarge, NoRoom}
 use Rattle.rules.specs.Board.{Board, epochOf}
@@ -77,26 +78,30 @@ from-some n (x ∷ l) ds e z d q =
     let m : n - 1 ≡ length l = omega arith in
     ap (λ (y : Drawn ℕ). andThen y (λ k left. drew (some (getD (x ∷ l) k 0)) left)) (ap (λ (p : ℕ). drawIndex p ds) (sym m) ∙ q)
 
--- ---- the turn
+-- ---- the turn, whatever else is done with the one drawn
 
-module _ (s : ℕ) (ds : List ℕ) (b : Board) where
-  pub turn-missing : drawFrom (poolOf b) ds ≡ missing → poolDraw s false (λ y c. c) ds b ≡ refused DrawMissing
+module _ (s : ℕ) (full : Bool) (also : Id → Board → Board) (ds : List ℕ) (b : Board) where
+  pub turn-missing : drawFrom (poolOf b) ds ≡ missing → poolDraw s full also ds b ≡ refused DrawMissing
   unfolding poolDraw drawn
   turn-missing e = rw e
 
-  pub turn-large : drawFrom (poolOf b) ds ≡ tooLarge → poolDraw s false (λ y c. c) ds b ≡ refused DrawTooLarge
+  pub turn-large : drawFrom (poolOf b) ds ≡ tooLarge → poolDraw s full also ds b ≡ refused DrawTooLarge
   unfolding poolDraw drawn
   turn-large e = rw e
 
-  pub turn-nobody : (left : List ℕ) → drawFrom (poolOf b) ds ≡ drew none left → poolDraw s false (λ y c. c) ds b ≡ finished 0 left b
+  pub turn-nobody : (left : List ℕ) → drawFrom (poolOf b) ds ≡ drew none left → poolDraw s full also ds b ≡ finished 0 left b
   unfolding poolDraw drawn
   turn-nobody left e = rw e
 
   module _ (x : ℕ) (left : List ℕ) (e : drawFrom (poolOf b) ds ≡ drew (some x) left) where
-    pub turn-no-room : mayJoin s (x ∷ []) b ≡ false → poolDraw s false (λ y c. c) ds b ≡ refused NoRoom
+    pub turn-no-room : mayJoin s (x ∷ []) b ≡ false → poolDraw s full also ds b ≡ refused NoRoom
     unfolding poolDraw drawn checked
     turn-no-room m = rw (e, m)
 
-    pub turn-seats : mayJoin s (x ∷ []) b ≡ true → poolDraw s false (λ y c. c) ds b ≡ finished 1 left (putOn s (drawnTo s (epochOf b)) x b)
+    pub turn-full : mayJoin s (x ∷ []) b ≡ true → full ≡ true → poolDraw s full also ds b ≡ refused NoRoom
     unfolding poolDraw drawn checked
-    turn-seats m = rw (e, m)
+    turn-full m f = rw (e, m, f)
+
+    pub turn-seats : mayJoin s (x ∷ []) b ≡ true → full ≡ false → poolDraw s full also ds b ≡ finished 1 left (also x (putOn s (drawnTo s (epochOf b)) x b))
+    unfolding poolDraw drawn checked
+    turn-seats m f = rw (e, m, f)

@@ -76,7 +76,7 @@ module _ (b : Board) (s : ℕ) (r : Rising keyOf (b .committees)) (j : ℕ) (je 
         go none y = refl
         go (some v) y = absurd (true≢false y)
 
-    members-none : membersOf s b ≡ []
+    pub members-none : membersOf s b ≡ []
     unfolding membersOf
     members-none = rw (membersOf, none-there)
 

@@ -8,6 +8,8 @@ use Rattle.types.specs.Numbers.{Id}
 use Rattle.rules.specs.Board.{Board, mostMachines}
 use Rattle.rules.specs.Draws.{Drawn, drew, missing, tooLarge}
 use Rattle.rules.specs.Turns.{Turn, finished, refused}
+use Rattle.types.specs.declared.Answer.the-variants as answers
+use Rattle.types.specs.declared.Outcome.{Outcome}
 use Rattle.sampling.specs.declared.Reader.{Reader}
 use Rattle.board.specs.Held.{Holds, noMachine}
 use Rattle.pool.specs.declared.Found as code
@@ -45,3 +47,8 @@ pub record Finished (draws after : List ℕ) (t : Turn) (n : ℕ) (left : Reader
 abbrev pub TellsTurn : List ℕ → List ℕ → Board → Turn → turned.Turned → Type 0
 TellsTurn draws after b t (Done n left) = Finished draws after t n left
 TellsTurn draws after b t (Refused a) = (t ≡ refused a) × Holds after b
+
+-- of a step that is one turn, its draws read from the first on
+abbrev pub toldOf : turned.Turned → Outcome
+toldOf (Done n left) = record { answer = answers.Done; handled = n; «draws_used» = left .at }
+toldOf (Refused a) = record { answer = a; handled = 0; «draws_used» = 0 }

@@ -9,6 +9,7 @@ use sampling::Drawn;
 use sampling::Reader;
 use types::Answer;
 use types::Machine;
+use types::Outcome;
 use types::Place;
 use types::ShardId;
 use types::ValidatorId;
@@ -23,13 +24,16 @@ ghost use Rattle.rules.specs.WellFormed.{wellFormed};
 ghost use Rattle.rules.specs.Table.{stands};
 ghost use Rattle.rules.specs.Moves as moves;
 ghost use Rattle.rules.specs.Moves.{poolOf, place, mayJoin, putOn};
+ghost use Rattle.rules.specs.Places.{leaveSeat};
 ghost use Rattle.rules.specs.Draws.{drawFrom};
 ghost use Rattle.rules.specs.Turns.{poolDraw};
 ghost use Rattle.tables.specs.Rows.{Rising, keyOf, placeOf};
 ghost use Rattle.board.specs.Layout.{boardSize};
 ghost use Rattle.board.specs.Held.{Holds, noMachine};
 ghost use Rattle.pool.specs.Ranks.{HasRank};
-ghost use Rattle.pool.specs.Told.{RowWithin, TellsDraw, TellsTurn};
+ghost use Rattle.pool.specs.Told.{RowWithin, TellsDraw, TellsTurn, toldOf};
+
+pub mod exit;
 
 // Whom a draw finds: a machine's row, and the reader moved on; or why it finds none.
 pub enum Found {
@@ -43,6 +47,26 @@ pub enum Found {
 pub enum Turned {
     Done(u64, Reader),
     Refused(Answer),
+}
+
+impl Turned {
+    // What a step tells that is this turn alone.
+    pub fn told(self) -> Outcome
+        ensures { λ r. ⌜ r ≡ toldOf self ⌝ }
+    {
+        match self {
+            Turned::Done(handled, left) => Outcome {
+                answer: Answer::Done,
+                handled: handled,
+                draws_used: left.at as u64,
+            },
+            Turned::Refused(answer) => Outcome {
+                answer: answer,
+                handled: 0,
+                draws_used: 0,
+            },
+        }
+    }
 }
 
 // How many machines there are, and no more than there is room for.
@@ -134,6 +158,25 @@ pub fn may_join(ws: &[u64], shard: ShardId, id: ValidatorId) -> bool
             return false;
         }
         return committees::member_count(ws, j) < MOST_MEMBERS;
+    }
+    committees::count(ws) < MOST_COMMITTEES
+}
+
+// Whether another may join once a machine is off the shard.
+pub fn may_replace(ws: &[u64], shard: ShardId, old: ValidatorId, new: ValidatorId) -> bool
+    requires { ⌜ length (now ws) ≡ boardSize ⌝ }
+    ensures { λ r. ⌜ ((b : Board) → Holds (now (ws .entry)) b → Rising keyOf (b .committees) → r ≡ mayJoin (shard .0) (new .0 ∷ []) (leaveSeat (shard .0) (old .0) b)) ⌝ }
+{
+    let j = committees::place_of(ws, shard);
+    if stands_at(ws, j, shard) {
+        if committees::has_member(ws, j, new) & (new.0 != old.0) {
+            return false;
+        }
+        if committees::has_member(ws, j, old) {
+            return true;
+        }
+        let members = committees::member_count(ws, j);
+        return members < MOST_MEMBERS;
     }
     committees::count(ws) < MOST_COMMITTEES
 }

@@ -9,7 +9,8 @@ use Rattle.rules.specs.Turns.{Result}
 use Rattle.rules.proofs.Counts.{Alike, same, apart, alike}
 use Rattle.board.proofs.Permits.{step-determined}
 use Rattle.snapshot.proofs.Writes.{write-determined}
-use Rattle.roster.specs.Exported.{ExportedStep, ExportedCheck, ExportedWrite}
+use Rattle.snapshot.proofs.Trips.{read-determined}
+use Rattle.roster.specs.Exported.{ExportedStep, ExportedCheck, ExportedWrite, ExportedRead}
 
 pub exported-determined : (step : Board → Result) (before u v : List ℕ) (m n : ℕ) (f g : List ℕ) → ExportedStep step before u m f → ExportedStep step before v n g → (m ≡ n) × (f ≡ g) × (u ≡ v)
 exported-determined step before u v m n f g a b =
@@ -30,3 +31,7 @@ check-determined ws m n a b = go (alike m 1) (alike n 1)
 pub exported-write-determined : (ws before u v : List ℕ) (long l m i j : ℕ) → ExportedWrite ws before long u l i → ExportedWrite ws before long v m j → (i ≡ j) × (u ≡ v) × (l ≡ m)
 exported-write-determined ws before u v long l m i j a b =
     let e = write-determined ws before long u v l m (a .answer) (b .answer) (a .written) (b .written) in (a .told ∙ ap numberOf (e .0) ∙ sym (b .told), e .1, e .2)
+
+pub exported-read-determined : (bytes before u v : List ℕ) (i j : ℕ) → ExportedRead bytes before u i → ExportedRead bytes before v j → (i ≡ j) × (u ≡ v)
+exported-read-determined bytes before u v i j a b =
+    let e = read-determined bytes before u v (a .answer) (b .answer) (a .read) (b .read) in (a .told ∙ ap numberOf (e .0) ∙ sym (b .told), e .1)

@@ -9,6 +9,7 @@ use Rattle.rules.specs.Board.{Board}
 use Rattle.rules.specs.Turns.{Result}
 use Rattle.board.specs.Permitted.{WellHeld, PermittedStep}
 use Rattle.snapshot.specs.Written.{Written}
+use Rattle.snapshot.specs.ReadAs.{ReadAs}
 
 -- a step: the answer's number; handled and draws used in `results`; the board's words
 pub record ExportedStep (step : Board → Result) (before after : List ℕ) (number : ℕ) (results : List ℕ) : Type 0 where
@@ -27,4 +28,10 @@ pub record ExportedCheck (ws : List ℕ) (number : ℕ) : Type 0 where
 pub record ExportedWrite (ws before : List ℕ) (long : ℕ) (after : List ℕ) (longer number : ℕ) : Type 0 where
   pub answer : Answer
   pub written : Written ws before long after longer answer
+  pub told : number ≡ numberOf answer
+
+-- a snapshot read: the answer's number and every lent word
+pub record ExportedRead (bytes before after : List ℕ) (number : ℕ) : Type 0 where
+  pub answer : Answer
+  pub read : ReadAs bytes before after answer
   pub told : number ≡ numberOf answer

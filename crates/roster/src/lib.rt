@@ -3,9 +3,9 @@ use types::ShardId;
 use types::ValidatorId;
 ghost use mathlib.Core.Path.{_≡_};
 ghost use Rattle.board.specs.Layout.{boardSize};
-ghost use Rattle.rules.specs.Places.{tick, timeOut};
+ghost use Rattle.rules.specs.Places.{tick, leave, rotate, resolve, timeOut};
 ghost use Rattle.rules.specs.Reshapes.{markSeatReady, markQuiet};
-ghost use Rattle.roster.specs.Exported.{ExportedStep, ExportedCheck, ExportedWrite};
+ghost use Rattle.roster.specs.Exported.{ExportedStep, ExportedCheck, ExportedWrite, ExportedRead};
 
 // How many words a board is: lend exactly as many.
 #[no_mangle]
@@ -32,6 +32,15 @@ pub extern "C" fn roster_well_formed(board: &[u64]) -> u64
         return 1;
     }
     0
+}
+
+// The board whose snapshot the bytes are, into lent words; words past the board stay as they are.
+#[no_mangle]
+pub extern "C" fn roster_read(snapshot: &[u8], board: &mut [u64]) -> u64
+    ensures { λ r. ⌜ ExportedRead (now (snapshot .entry)) (now (board .entry)) (now (board .exit)) r ⌝ }
+{
+    let answer = reading::read_snapshot(snapshot, board);
+    answer.number()
 }
 
 // The board's snapshot into lent bytes, and how many it has.
@@ -88,6 +97,52 @@ pub extern "C" fn roster_mark_quiet(
     ensures { λ r. ⌜ ExportedStep (markQuiet target side) (now (board .entry)) (now (board .exit)) r (now (results .exit)) ⌝ }
 {
     let told = marks::mark_quiet(board, ShardId(target), side);
+    *results = [told.handled, told.draws_used];
+    let answer = told.answer;
+    answer.number()
+}
+
+#[no_mangle]
+pub extern "C" fn roster_leave(
+    board: &mut [u64],
+    machine: u64,
+    draws: &[u64],
+    results: &mut [u64; 2],
+) -> u64
+    ensures { λ r. ⌜ ExportedStep (leave machine (now (draws .entry))) (now (board .entry)) (now (board .exit)) r (now (results .exit)) ⌝ }
+{
+    let told = withdrawals::deactivate_to_insufficient_stake(board, ValidatorId(machine), draws);
+    *results = [told.handled, told.draws_used];
+    let answer = told.answer;
+    answer.number()
+}
+
+#[no_mangle]
+pub extern "C" fn roster_rotate(
+    board: &mut [u64],
+    shard: u64,
+    machine: u64,
+    draws: &[u64],
+    results: &mut [u64; 2],
+) -> u64
+    ensures { λ r. ⌜ ExportedStep (rotate shard machine (now (draws .entry))) (now (board .entry)) (now (board .exit)) r (now (results .exit)) ⌝ }
+{
+    let told = committee::rotate::run_shuffle_step(
+        board,
+        ShardId(shard),
+        ValidatorId(machine),
+        draws,
+    );
+    *results = [told.handled, told.draws_used];
+    let answer = told.answer;
+    answer.number()
+}
+
+#[no_mangle]
+pub extern "C" fn roster_resolve(board: &mut [u64], results: &mut [u64; 2]) -> u64
+    ensures { λ r. ⌜ ExportedStep resolve (now (board .entry)) (now (board .exit)) r (now (results .exit)) ⌝ }
+{
+    let told = rotations_done::resolve_pending_rotations(board);
     *results = [told.handled, told.draws_used];
     let answer = told.answer;
     answer.number()

@@ -114,7 +114,7 @@ good-retire : (s : Shard) (v : Id) (b : Board) → Good b → Good (retire s v b
 unfolding retire
 good-retire s v b h = by-cases Good (hasSeatsFree s b) b _ (λ e. h) (λ e. good-release s (isSeatedOn s) v h)
 
-good-close : (r : Rotation) (b : Board) → Good b → Good (close r b)
+pub good-close : (r : Rotation) (b : Board) → Good b → Good (close r b)
 unfolding close
 good-close r b h = good-retire (r .shard) (r .victim) _ (on-rotations h (dropFirst (isRotation (r .shard) (r .victim))) (Rota-dropFirst _ (h .rotations)))
 

@@ -73,7 +73,7 @@ pub fn at(ws: &[u64], i: usize) -> Rotation
 }
 
 // Words that some board has are counted within their room; others by the room alone.
-fn rows(ws: &[u64]) -> usize
+pub fn rows(ws: &[u64]) -> usize
     requires { ⌜ length (now ws) ≡ boardSize ⌝ }
     ensures { λ r. ⌜ (r ≤ mostRotations) × ((b : Board) → Holds (now (ws .entry)) b → r ≡ length (b .rotations)) ⌝ }
 {
