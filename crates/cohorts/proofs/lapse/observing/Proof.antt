@@ -26,11 +26,11 @@ abbrev μ-loop : tie.MeasureT-loop
 
 loop-holds : tie.Need-loop-holds Inv-loop μ-loop
 loop-holds c = (
-      omega arith,
-      c .rows-within .ensures .0,
-      omega arith,
-      λ b h ok l. (c .rows-within .ensures .1 (rw (c .before .count .ensures b h l) (seats-room _ b h _ l)) ∙ c .before .count .ensures b h l, omega arith),
-    )
+  omega arith,
+  c .rows-within .ensures .0,
+  omega arith,
+  λ b h ok l. (c .rows-within .ensures .1 (rw (c .before .count .ensures b h l) (seats-room _ b h _ l)) ∙ c .before .count .ensures b h l, omega arith),
+)
 
 add-r : tie.Need-add-r Inv-loop μ-loop
 add-r c = omega (arith, c .bit .ensures, bit-most (c .before .observes-shard .result))

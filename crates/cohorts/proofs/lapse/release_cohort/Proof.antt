@@ -22,27 +22,21 @@ abbrev μ-loop : tie.MeasureT-loop
 
 loop-holds : tie.Need-loop-holds Inv-loop μ-loop
 loop-holds c = (
-      omega arith,
-      c .rows-within .ensures .0,
-      refl,
-      λ b h ok l. (c .rows-within .ensures .1 (rw (c .before .count .ensures b h l) (seats-room _ b h _ l)) ∙ c .before .count .ensures b h l, none-gone _ _ b _ h ok),
-    )
-
-take-off-requires : tie.Need-take-off-requires Inv-loop μ-loop
-take-off-requires c κs = c .before .before .before .before .loop .inv .2 ∙ c .before .before .before .before .before .before .before .before .before .pre .0
+  omega arith,
+  c .rows-within .ensures .0,
+  refl,
+  λ b h ok l. (c .rows-within .ensures .1 (rw (c .before .count .ensures b h l) (seats-room _ b h _ l)) ∙ c .before .count .ensures b h l, none-gone _ _ b _ h ok),
+)
 
 loop-again : tie.Need-loop-again Inv-loop μ-loop
 loop-again c = let a = c .before .before .before .before .before .before .before .loop in (
-      omega arith,
-      a .inv .1,
-      c .before .before .take-off .kept .0 ∙ a .inv .2,
-      λ b h ok l.
-          let t = a .inv .3 b h ok l in
-          (t .0, one-gone _ _ b _ _ (t .1) l _ (omega (arith, t .0)) (seatEntry (c .before .before .before .before .at .result)) (c .before .before .before .before .at .ensures) (c .before .before .take-off .ensures)),
-    )
-
-clear-requires : tie.Need-clear-requires Inv-loop μ-loop
-clear-requires c κs = (c .before .before .loop .inv .2 ∙ c .before .before .before .before .before .before .before .pre .0, c .before .before .before .before .before .before .before .pre .1)
+  omega arith,
+  a .inv .1,
+  c .before .before .take-off .kept .0 ∙ a .inv .2,
+  λ b h ok l.
+      let t = a .inv .3 b h ok l in
+      (t .0, one-gone _ _ b _ _ (t .1) l _ (omega (arith, t .0)) (seatEntry (c .before .before .before .before .at .result)) (c .before .before .before .before .at .ensures) (c .before .before .take-off .ensures)),
+)
 
 returns : tie.Need-returns Inv-loop μ-loop
 returns c = λ b h ok l named.
@@ -59,10 +53,10 @@ release-cohort-spec =
     (λ c κs. search needs)
     loop-holds
     (λ c κs. search needs)
-    take-off-requires
+    (λ c κs. search needs)
     (λ c. search needs)
     (λ c. search needs)
     loop-again
-    clear-requires
+    (λ c κs. search needs)
     (λ c. search needs)
     returns)
