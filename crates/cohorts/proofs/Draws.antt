@@ -16,7 +16,7 @@ use Rattle.types.specs.declared.Answer.the-variants.{Done, OutOfRange, NotThere
 use Rattle.types.specs.declared.Outcome.{Outcome}
 use Rattle.rules.specs.Lists.{_and_, _or_, bitOf, every, any, has, isEmpty}
 use Rattle.rules.specs.Table.{Table, isSome, at, stands, holdsAt, keysWhere}
-use Rattle.rules.specs.Board.{split, merge, Seat, Reshape, Board, mostCommittees, mostMembers, mostSeats, sizeOf}
+use Rattle.rules.specs.Board.{merge, Seat, Reshape, Board, mostCommittees, mostMembers, mostSeats, sizeOf}
 use Rattle.rules.specs.WellFormed.{isTarget, goodIds, wellFormed}
 use Rattle.rules.specs.Draws.{drew, missing, tooLarge, shuffle}
 use Rattle.rules.specs.Moves.{poolOf, mayJoin, isKind}
@@ -39,8 +39,8 @@ use Rattle.board.proofs.Keyed.{committees-rise, reshapes-rise}
 use Rattle.board.proofs.Moves.{members-at, members-none}
 use Rattle.pool.proofs.Pools.{keys-here, keys-past}
 use Rattle.rows.proofs.Asked.{holds-none}
-use Rattle.moves.proofs.Exiting.{kind-split}
 use Rattle.steps.specs.Inner.{outcome, Step}
+use Rattle.cohorts.proofs.Lapses.{splits-unless}
 
 -- ---- the pool, as a loop gathers it
 
@@ -85,20 +85,17 @@ module _ (b : Board) (draws ids left : List ℕ) (s : shuffle (poolOf b) draws �
 -- ---- a split that awaits its cohort
 
 module _ (r : Reshape) where
-  splits : (m : Bool) → isKind merge r ≡ m → isKind split r ≡ not m
-  splits m e = sym (kind-split false r refl) ∙ ap not e
-
   pub merge-awaits : isKind merge r ≡ true → false ≡ awaitsCohort r
   unfolding awaitsCohort _and_
-  merge-awaits m = rw (splits true m)
+  merge-awaits m = rw (splits-unless r true m)
 
   pub scheduled-awaits : isKind merge r ≡ false → isSome (r .terminal) ≡ true → false ≡ awaitsCohort r
   unfolding awaitsCohort _and_
-  scheduled-awaits m s = rw (splits false m, s)
+  scheduled-awaits m s = rw (splits-unless r false m, s)
 
   pub empty-awaits : isKind merge r ≡ false → isSome (r .terminal) ≡ false → (n : ℕ) → n ≡ length (r .seats) → eqb n 0 ≡ awaitsCohort r
   unfolding awaitsCohort isEmpty _and_
-  empty-awaits m s n e = rw (splits false m, s, e) (go (r .seats))
+  empty-awaits m s n e = rw (splits-unless r false m, s, e) (go (r .seats))
     where
       go : (l : Table Seat) → eqb (length l) 0 ≡ isEmpty l
       go [] = refl

@@ -103,6 +103,10 @@ module _ (t : Shard) (i : ℕ) (b : Board) (k : ℕ) (ws : List ℕ) (w : Gone t
 
 -- ---- each way out
 
+-- a reshape is a split or a merge
+pub splits-unless : (r : Reshape) (m : Bool) → isKind merge r ≡ m → isKind split r ≡ not m
+splits-unless r m e = sym (kind-split false r refl) ∙ ap not e
+
 module _ (b : Board) (ok : wellFormed b ≡ true) (after : List ℕ) (r : Outcome) (t : Shard) where
   pub no-target : isTarget t ≡ false → Holds after b → r ≡ outcome OutOfRange 0 0 → Step (lapse t) b after r
   unfolding lapse alone checked
@@ -121,7 +125,7 @@ module _ (b : Board) (ok : wellFormed b ≡ true) (after : List ℕ) (r : Outcom
       stands = at-is (b .reshapes) (reshapes-rise b ok) t i noReshape here named
 
       splits : (m : Bool) → isKind merge (getD (b .reshapes) i noReshape .val) ≡ m → reshapeAt split t b ≡ not m
-      splits m e = holds-at t (isKind split) (b .reshapes) _ stands ∙ sym (kind-split false _ refl) ∙ ap not e
+      splits m e = holds-at t (isKind split) (b .reshapes) _ stands ∙ splits-unless _ m e
 
       pub a-merge : isKind merge (getD (b .reshapes) i noReshape .val) ≡ true → Holds after b → r ≡ outcome NotThere 0 0 → Step (lapse t) b after r
       a-merge m h e = not-there (splits true m) h e
