@@ -13,13 +13,13 @@ use Rattle.types.specs.Shards.{leftOf, rightOf}
 use Rattle.types.specs.Places.{isPooled, observes, setToWatch}
 use Rattle.rules.specs.Lists.{_and_, _or_, isEmpty, sort}
 use Rattle.rules.specs.Table.{entry, Table, at, put, update}
-use Rattle.rules.specs.Board.{Kind, split, merge, Seat, Reshape, Board, mostMembers, mostReshapes, mostSeats, epochOf, sizeOf}
+use Rattle.rules.specs.Board.{Kind, split, merge, Seat, Reshape, Board, mostReshapes, mostSeats, epochOf, sizeOf}
 use Rattle.rules.specs.WellFormed.{isTarget, isWord, goodOption, goodSeat, goodQuiet}
 use Rattle.rules.specs.Moves.{poolOf, membersOf, place, join, putOn, forAll, withSeats, isKind, newSeat, watch}
 use Rattle.rules.specs.Reshapes.{halfUp, newReshape, admit, admissionFaults, admitSplit, seatedMembers, keepersOf, seatAll, drawKeepers, admitMerge, readySeat, markSeatReady, hasSide, quieted, markQuiet, awaitsCohort, watchAll, cohortTurn, drawCohort, cohortOf, released, lapse}
 use Rattle.rules.proofs.Counts.{eqb-same, hit-same, occ, occ-append, occ-take}
 use Rattle.rules.proofs.Tests.{of-no, and-parts, and-joins, or-cases, or-left, or-right, of-not, lt-of-no, eq-of}
-use Rattle.rules.proofs.KeptLists.{Part, part-keep, part-occ, occ-sort, Ids, Ids-none}
+use Rattle.rules.proofs.KeptLists.{Part, part-keep, part-occ, occ-sort, Ids, Ids-none, Ids-part}
 use Rattle.rules.proofs.KeptTables.{length-put, Rows, Rows-none, Rows-within, Rows-put, Rows-update, once-keysWhere, holds-at, at-update}
 use Rattle.rules.proofs.KeptBoard.{limits, family, Fit, of-fit, Fit-seats, Fit-quiet, Good, on-reshapes, stamp-now}
 use Rattle.rules.proofs.KeptMoves.{Keeps, keeps-setToWatch, members-good, Words, Joins, joins-of, Joins-reshapes, good-putOn, Joins-putOn, good-release, forAll-counts, forAll-all, good-reshape}
@@ -47,14 +47,14 @@ unfolding admitSplit admissionFaults
 good-admitSplit t b h = step-keeps Good _ b _ _ h (λ p. admit-finishes split t 1 [] [] b (of-no _ (p .1 .0)) (Rows-none _ _) h)
 
 -- a seat for a child of the target is good
-abbrev IsChild : Shard → Shard → Type 0
+abbrev pub IsChild : Shard → Shard → Type 0
 IsChild t c = (x : Id) → isWord x ≡ true → goodSeat t (entry x (newSeat c)) ≡ true
 
-good-left : (t : Shard) → IsChild t (leftOf t)
+pub good-left : (t : Shard) → IsChild t (leftOf t)
 unfolding goodSeat
 good-left t x w = and-joins _ _ w (or-left _ _ (eqb-same (leftOf t)))
 
-good-right : (t : Shard) → IsChild t (rightOf t)
+pub good-right : (t : Shard) → IsChild t (rightOf t)
 unfolding goodSeat
 good-right t x w = and-joins _ _ w (or-right _ _ (eqb-same (rightOf t)))
 
@@ -130,12 +130,12 @@ good-markQuiet t side b h =
 -- ---- DRAW COHORT
 
 -- a board on which those of a list are still to watch
-record Watching (t : Shard) (l : List Id) (b : Board) : Type 0 where
-  good : Good b
-  joins : Joins t l b
-  seats : (r : Reshape) → at t (b .reshapes) ≡ some r → length (r .seats) + length l ≤ mostSeats
+pub record Watching (t : Shard) (l : List Id) (b : Board) : Type 0 where
+  pub good : Good b
+  pub joins : Joins t l b
+  pub seats : (r : Reshape) → at t (b .reshapes) ≡ some r → length (r .seats) + length l ≤ mostSeats
 
-watch-keeps : (t c : Shard) → IsChild t c → (x : Id) (l : List Id) (b : Board) → Watching t (x ∷ l) b → Watching t l (watch t c x b)
+pub watch-keeps : (t c : Shard) → IsChild t c → (x : Id) (l : List Id) (b : Board) → Watching t (x ∷ l) b → Watching t l (watch t c x b)
 unfolding watch putOn join place occ
 watch-keeps t c g x l b w = record {
   good = good-reshape t add (λ r e f. Fit-seats (put x (newSeat c)) (Rows-within (omega (arith, length-put x (newSeat c) (r .seats), w .seats r e)) (Rows-put x (newSeat c) (g x (w .joins .words x (omega (arith, hit-same x)))) (f .seats))) f) on;
@@ -163,36 +163,34 @@ good-watchAll t ids b w =
     let l : Watching t (drop n ids) (forAll (watch t (leftOf t)) (take n ids) b) = forAll-counts (Watching t) _ (watch-keeps t (leftOf t) (good-left t)) (take n ids) (drop n ids) b (rw take-append-drop w) in
     forAll-all (Watching t) _ (watch-keeps t (rightOf t) (good-right t)) (drop n ids) _ l .good
 
-no-seats : (l : Table Seat) → isEmpty l ≡ true → length l ≡ 0
+pub no-seats : (l : Table Seat) → isEmpty l ≡ true → length l ≡ 0
 unfolding isEmpty
 no-seats [] e = refl
 no-seats (x ∷ l) e = absurd (false≢true e)
 
+-- the first S of a shuffled pool
+pub chosen : {b : Board} → Good b → (ids : List Id) → Mixed (poolOf b) ids → Ids mostSeats (take (sizeOf b) ids)
+unfolding poolOf
+chosen {b} h ids m = record {
+  room = rw length-take (omega (arith, limits _ (h .settings) .size));
+  words = λ x o. pool-word h x (omega (arith, o, occ-take x (sizeOf b) ids, m .ids x));
+  once = λ x. omega (arith, occ-take x (sizeOf b) ids, m .ids x, once-keysWhere isPooled x (b .machines) (h .machines .rising));
+}
+
 pub good-drawCohort : (t : Shard) (draws : List ℕ) (b : Board) → Good b → Good (drawCohort t draws b .board)
-unfolding drawCohort cohortTurn awaitsCohort poolOf
+unfolding drawCohort cohortTurn awaitsCohort
 good-drawCohort t draws b h =
     step-keeps Good _ b _ _ h (λ p.
     drawn-finishes Good (Mixed (poolOf b)) _ _ (shuffle-draws (poolOf b) draws) (λ ids left m.
-    checked-finishes Good _ _ (λ q. good-watchAll t (take (sizeOf b) ids) b (record {
+    checked-finishes Good _ _ (λ q.
+    let k = chosen h ids m in
+    good-watchAll t (take (sizeOf b) ids) b (record {
       good = h;
-      joins = joins-of h t (family t (of-no _ (p .1 .0)) .target) (chosen ids m) (of-no _ (q .0));
+      joins = joins-of h t (family t (of-no _ (p .1 .0)) .target) (Ids-part k (omega (arith, k .room)) (λ x. omega arith)) (of-no _ (q .0));
       seats = λ r e.
           let s = sym (holds-at t awaitsCohort (b .reshapes) r e) ∙ of-no _ (p .1 .1 .0) in
-          omega (arith, no-seats (r .seats) (and-parts _ _ (and-parts _ _ s .1) .1), few ids);
+          omega (arith, no-seats (r .seats) (and-parts _ _ (and-parts _ _ s .1) .1), k .room);
     }))))
-  where
-    few : (ids : List Id) → length (take (sizeOf b) ids) ≤ 32
-    few ids = rw length-take (omega (arith, limits _ (h .settings) .size))
-
-    pool : (x : ℕ) → occ x (poolOf b) ≤ 1
-    pool x = once-keysWhere isPooled x (b .machines) (h .machines .rising)
-
-    chosen : (ids : List Id) → Mixed (poolOf b) ids → Ids mostMembers (take (sizeOf b) ids)
-    chosen ids m = record {
-      room = omega (arith, few ids);
-      words = λ x o. pool-word h x (omega (arith, o, occ-take x (sizeOf b) ids, m .ids x));
-      once = λ x. omega (arith, occ-take x (sizeOf b) ids, m .ids x, pool x);
-    }
 
 -- ---- LAPSE
 

@@ -1,0 +1,3 @@
+pub mod Lapses
+pub mod Watches
+pub mod Draws
