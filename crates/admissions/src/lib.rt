@@ -1,0 +1,2 @@
+// The admissions of a split and of a merge. Each step plans, then applies: every refusal comes before the first write.
+pub mod faults;
