@@ -1,1 +1,2 @@
 pub mod Granted
+pub mod Kept
