@@ -11,7 +11,7 @@ use lib.Seq.{drop-cons, set-getD, set-set, getD-set-same}
 use Rattle.types.specs.Numbers.{Shard, Id}
 use Rattle.rules.specs.Table.{Entry, entry, Table, at, put}
 use Rattle.rules.specs.Board.{Kind, Seat, Reshape, Board, mostSeats, onReshapes, epochOf}
-use Rattle.rules.specs.WellFormed.{wellFormed}
+use Rattle.rules.specs.WellFormed.{rising, wellFormed}
 use Rattle.rules.specs.Moves.{withSeats, newSeat}
 use Rattle.rules.specs.Reshapes.{newReshape, seatAll}
 use Rattle.rules.proofs.Tables.{From-put}
@@ -48,7 +48,7 @@ module _ (b : Board) (i : ℕ) (ws : List ℕ) (seats : Table Seat) (rise : Risi
 put-rises : (x : Id) (v : Seat) (seats : Table Seat) → Rising keyOf seats → Rising keyOf (put x v seats)
 put-rises x v seats r = from-rising 0 (put x v seats) (From-put x v 0 seats zero-le (rising-table seats r))
 
-abbrev seatsAt : ℕ → Board → Table Seat
+abbrev pub seatsAt : ℕ → Board → Table Seat
 seatsAt i b = getD (b .reshapes) i noReshape .val .seats
 
 module _ (b : Board) (i : ℕ) (l : i < length (b .reshapes)) (s : Table Seat) where
@@ -64,6 +64,20 @@ module _ (b : Board) (i : ℕ) (l : i < length (b .reshapes)) (s : Table Seat) w
       let e = entry (getD rows i noReshape .key) (withSeats (λ _. s) (getD rows i noReshape .val)) in
       let f : Entry Reshape → Entry Reshape = λ z. entry (z .key) (withSeats (λ _. t) (z .val)) in
       ap (λ (z : Table Reshape). onReshapes (λ _. z) b) (set-set rows i e _ ∙ ap (λ (z : Entry Reshape). set rows i (f z)) (getD-set-same rows i e noReshape l))
+
+pub no-seats-rise : Rising {A = Entry Seat} keyOf []
+unfolding rising
+no-seats-rise = refl
+
+pub seat-all-rises : (c : Shard) (ids : List Id) (seats : Table Seat) → Rising keyOf seats → Rising keyOf (seatAll c ids seats)
+unfolding seatAll
+seat-all-rises c [] seats r = r
+seat-all-rises c (x ∷ ids) seats r = seat-all-rises c ids (put x (newSeat c) seats) (put-rises x (newSeat c) seats r)
+
+pub seat-all-length : (c : Shard) (ids : List Id) (seats : Table Seat) → length (seatAll c ids seats) ≤ length seats + length ids
+unfolding seatAll
+seat-all-length c [] seats = omega arith
+seat-all-length c (x ∷ ids) seats = omega (arith, seat-all-length c ids (put x (newSeat c) seats), length-put x (newSeat c) seats)
 
 -- the seats so far, after k ids
 pub record Seating (i : ℕ) (c : Shard) (ids : List Id) (b : Board) (k : ℕ) (ws : List ℕ) : Type 0 where

@@ -1,3 +1,3 @@
-pub mod Granted
 pub mod Kept
+pub mod Granted
 pub mod Seated
