@@ -1,0 +1,4 @@
+pub mod Refusing
+pub mod Drawing
+pub mod Opening
+pub mod Admitting
