@@ -4,7 +4,7 @@ use types::ValidatorId;
 ghost use mathlib.Core.Path.{_≡_};
 ghost use Rattle.board.specs.Layout.{boardSize};
 ghost use Rattle.rules.specs.Places.{tick, leave, rotate, resolve, timeOut};
-ghost use Rattle.rules.specs.Reshapes.{markSeatReady, markQuiet};
+ghost use Rattle.rules.specs.Reshapes.{admitSplit, admitMerge, markSeatReady, markQuiet, drawCohort, lapse};
 ghost use Rattle.roster.specs.Exported.{ExportedStep, ExportedCheck, ExportedWrite, ExportedRead};
 
 // How many words a board is: lend exactly as many.
@@ -143,6 +143,56 @@ pub extern "C" fn roster_resolve(board: &mut [u64], results: &mut [u64; 2]) -> u
     ensures { λ r. ⌜ ExportedStep resolve (now (board .entry)) (now (board .exit)) r (now (results .exit)) ⌝ }
 {
     let told = resolving::resolve_pending_rotations(board);
+    *results = [told.handled, told.draws_used];
+    let answer = told.answer;
+    answer.number()
+}
+
+#[no_mangle]
+pub extern "C" fn roster_admit_split(board: &mut [u64], target: u64, results: &mut [u64; 2]) -> u64
+    ensures { λ r. ⌜ ExportedStep (admitSplit target) (now (board .entry)) (now (board .exit)) r (now (results .exit)) ⌝ }
+{
+    let told = admissions::admit_split(board, ShardId(target));
+    *results = [told.handled, told.draws_used];
+    let answer = told.answer;
+    answer.number()
+}
+
+#[no_mangle]
+pub extern "C" fn roster_admit_merge(
+    board: &mut [u64],
+    target: u64,
+    draws: &[u64],
+    results: &mut [u64; 2],
+) -> u64
+    ensures { λ r. ⌜ ExportedStep (admitMerge target (now (draws .entry))) (now (board .entry)) (now (board .exit)) r (now (results .exit)) ⌝ }
+{
+    let told = admissions::admit_merge(board, ShardId(target), draws);
+    *results = [told.handled, told.draws_used];
+    let answer = told.answer;
+    answer.number()
+}
+
+#[no_mangle]
+pub extern "C" fn roster_draw_cohort(
+    board: &mut [u64],
+    target: u64,
+    draws: &[u64],
+    results: &mut [u64; 2],
+) -> u64
+    ensures { λ r. ⌜ ExportedStep (drawCohort target (now (draws .entry))) (now (board .entry)) (now (board .exit)) r (now (results .exit)) ⌝ }
+{
+    let told = cohorts::draw::draw_split_cohort(board, ShardId(target), draws);
+    *results = [told.handled, told.draws_used];
+    let answer = told.answer;
+    answer.number()
+}
+
+#[no_mangle]
+pub extern "C" fn roster_lapse(board: &mut [u64], target: u64, results: &mut [u64; 2]) -> u64
+    ensures { λ r. ⌜ ExportedStep (lapse target) (now (board .entry)) (now (board .exit)) r (now (results .exit)) ⌝ }
+{
+    let told = cohorts::lapse::lapse_split(board, ShardId(target));
     *results = [told.handled, told.draws_used];
     let answer = told.answer;
     answer.number()
