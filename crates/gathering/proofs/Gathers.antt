@@ -1,0 +1,93 @@
+-- A test of a member, and the list as a loop fills it.
+use Prim.Native.Nat.{ℕ, suc, _+_, _≤_, _<_}
+use mathlib.Core.Path.{_≡_, refl, ap, sym, _∙_}
+use mathlib.Core.List.{List, [], _∷_, _++_, append-assoc, append-nil}
+use mathlib.Core.Option.{none}
+use mathlib.Core.Bool.{Bool, true, false, cond, not, _&&_}
+use native.Mathlib.Numerals.{add-one}
+use lib.ListN.{length, getD, take, drop, set, drop-of-length-le}
+use lib.Seq.{drop-cons, take-suc-set}
+use Rattle.types.specs.Numbers.{Shard, Id}
+use Rattle.types.specs.Places.{isSeatedOn, isReady}
+use Rattle.types.specs.declared.Answer.the-variants.{DrawMissing, DrawTooLarge}
+use Rattle.rules.specs.Lists.{keep, sort}
+use Rattle.rules.specs.Table.{at}
+use Rattle.rules.specs.Board.{Board}
+use Rattle.rules.specs.WellFormed.{wellFormed}
+use Rattle.rules.specs.Draws.{shuffle}
+use Rattle.rules.specs.Moves.{says}
+use Rattle.sampling.specs.Reads.{GivesShuffle, mixed}
+use Rattle.sampling.specs.declared.Reader.{Reader}
+use Rattle.sampling.specs.declared.Shuffled.{Shuffled}
+use Rattle.sampling.specs.declared.Shuffled.the-variants as shuffled
+use Rattle.sampling.proofs.Mixes.{shuffle-missing, shuffle-large, shuffle-drew}
+use Rattle.tables.proofs.Bools.{and-is}
+use Rattle.board.specs.Held.{noCommittee}
+use Rattle.board.proofs.Keyed.{committees-rise}
+use Rattle.board.proofs.Moves.{members-at, members-none}
+use Rattle.gathering.specs.declared.Members.{Members}
+use Rattle.gathering.specs.declared.Members.the-variants.{Ready, Waiting, Seated}
+use Rattle.gathering.specs.Gathered.{isGathered, taken, gathered, Drew, Lacks, lacking, large}
+
+-- ---- a member's place
+
+module _ (s : Shard) (b : Board) (x : Id) (seated : Bool) (e : seated ≡ says (isSeatedOn s) b x) where
+  pub ready-one : (w : Members) → w ≡ Ready → (ready : Bool) → ready ≡ says isReady b x → (seated && ready) ≡ isGathered w s b x
+  ready-one w q ready r = and-is seated ready ∙ rw (e, r, q)
+
+  pub waiting-one : (w : Members) → w ≡ Waiting → (ready : Bool) → ready ≡ says isReady b x → (seated && not ready) ≡ isGathered w s b x
+  waiting-one w q ready r = and-is seated (not ready) ∙ rw (e, r, q)
+
+  pub any-seated : (w : Members) → w ≡ Seated → seated ≡ isGathered w s b x
+  any-seated w q = rw (e, q)
+
+-- ---- the list
+
+module _ (w : Members) (s : Shard) (b : Board) (x : Id) (out : List ℕ) (k : ℕ) where
+  pub added : true ≡ isGathered w s b x → k < length out → take (k + 1) (set out k x) ≡ take k out ++ taken w s b x
+  added q l = rw (← q, add-one k) (take-suc-set out k x l)
+
+  pub passed : false ≡ isGathered w s b x → take k out ≡ take k out ++ taken w s b x
+  passed q = rw (← q) (sym (append-nil (take k out)))
+
+keep-next : (f : Id → Bool) (l : List Id) (i : ℕ) → i < length l → keep f (drop i l) ≡ cond (f (getD l i 0)) (getD l i 0 ∷ []) [] ++ keep f (drop (i + 1) l)
+unfolding keep
+keep-next f l i h = rw (add-one i) (ap (keep f) (drop-cons l i 0 h) ∙ go (f (getD l i 0)))
+  where
+    go : (c : Bool) → cond c (getD l i 0 ∷ keep f (drop (suc i) l)) (keep f (drop (suc i) l)) ≡ cond c (getD l i 0 ∷ []) [] ++ keep f (drop (suc i) l)
+    go true = refl
+    go false = refl
+
+pub keep-none : (f : Id → Bool) (l : List Id) (i : ℕ) → length l ≤ i → keep f (drop i l) ≡ []
+unfolding keep
+keep-none f l i h = ap (keep f) (drop-of-length-le l {i = i} h)
+
+pub one-more : (w : Members) (s : Shard) (b : Board) (l : List Id) (i : ℕ) → i < length l → (x : Id) → x ≡ getD l i 0 → (filled next whole : List Id) → next ≡ filled ++ taken w s b x
+    → filled ++ keep (isGathered w s b) (drop i l) ≡ whole → next ++ keep (isGathered w s b) (drop (i + 1) l) ≡ whole
+one-more w s b l i h x e filled next whole p q =
+    let rest = keep (isGathered w s b) (drop (i + 1) l) in
+    let here : next ≡ filled ++ taken w s b (getD l i 0) = p ∙ rw e in
+    ap (λ v. v ++ rest) here ∙ append-assoc filled (taken w s b (getD l i 0)) rest ∙ ap (λ v. filled ++ v) (sym (keep-next (isGathered w s b) l i h)) ∙ q
+
+-- ---- sorted and shuffled
+
+module _ (draws ids sorted after : List ℕ) (p : ℕ) (q : p ≤ length draws) (s : sorted ≡ sort ids) (r : Shuffled)
+    (g : GivesShuffle (length draws) (shuffle sorted (drop p draws)) r) (m : after ≡ mixed sorted (drop p draws)) where
+  pub mix-done : (left : Reader) → r ≡ shuffled.Done left → Drew draws (shuffle (sort ids) (drop p draws)) after left
+  mix-done left e = let d = shuffle-drew draws sorted p q r g left e in record { read = d .0; drawn = rw (← s, m) (d .1) }
+
+  pub mix-missing : r ≡ shuffled.Missing → Lacks (shuffle (sort ids) (drop p draws)) DrawMissing
+  mix-missing e = rw (← s, shuffle-missing draws sorted p q r g e) lacking
+
+  pub mix-large : r ≡ shuffled.TooLarge → Lacks (shuffle (sort ids) (drop p draws)) DrawTooLarge
+  mix-large e = rw (← s, shuffle-large draws sorted p q r g e) large
+
+-- ---- of a committee, by its shard
+
+pub none-gathered : (w : Members) (s : Shard) (b : Board) → at s (b .committees) ≡ none → [] ≡ gathered w s b
+unfolding keep
+none-gathered w s b n = rw (members-none b s n)
+
+pub all-gathered : (w : Members) (s : Shard) (b : Board) → wellFormed b ≡ true → (j : ℕ) → j < length (b .committees) → getD (b .committees) j noCommittee .key ≡ s
+    → keep (isGathered w s b) (getD (b .committees) j noCommittee .val) ≡ gathered w s b
+all-gathered w s b ok j l e = rw (members-at b s j (committees-rise b ok) l e)
