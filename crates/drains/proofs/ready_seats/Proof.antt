@@ -1,5 +1,5 @@
 use Prim.Native.Nat.{_+_, _-_, _≤_, _<_}
-use mathlib.Core.Path.{_≡_, refl, ap, _∙_}
+use mathlib.Core.Path.{_≡_, ap, _∙_}
 use native.Mathlib.Omega.{arith}
 use borrow.Author.Needs.{needs}
 use lib.ListN.{length, getD, drop}
@@ -13,12 +13,6 @@ use Rattle.committee.proofs.Asked.{count-next, count-none}
 use Rattle.drains.specs.Plans.{countsSeat}
 use Rattle.drains.proofs.ready_seats.Statement.{statement}
 use Rattle.drains.proofs.ready_seats.Tie as tie
-use Rattle.drains.proofs.ready_seats.Reads as reads
-use Rattle.drains.proofs.ready_seats.Lts as lts
-use Rattle.board.proofs.machines.bit.Reads as bit-reads
-use Rattle.drains.proofs.counts_at.Reads as counts-at-reads
-use Rattle.reshapes.proofs.seats.count.Reads as count-reads
-use Rattle.steps.proofs.rows_within.Reads as rows-within-reads
 
 abbrev Inv-loop : tie.InvT-loop
 Inv-loop board i whose n ready₀ k₀ ready k = (k ≤ n) × (n ≤ mostSeats) × (ready ≤ k)
@@ -29,15 +23,6 @@ Inv-loop board i whose n ready₀ k₀ ready k = (k ≤ n) × (n ≤ mostSeats) 
 abbrev μ-loop : tie.MeasureT-loop
 μ-loop board i whose n ready₀ k₀ ready k = n - k
 
--- src/lib.rt:59:32
-count-requires : tie.Need-count-requires Inv-loop μ-loop
-count-requires c κs = search needs
-
--- src/lib.rt:59:9
-rows-within-requires : tie.Need-rows-within-requires Inv-loop μ-loop
-rows-within-requires c κs = search needs
-
--- src/lib.rt:62:5
 loop-holds : tie.Need-loop-holds Inv-loop μ-loop
 unfolding countWhere
 loop-holds c = (
@@ -49,27 +34,9 @@ loop-holds c = (
       (c .rows-within .ensures .1 (rw n (seats-room _ b h _ l)) ∙ n, omega arith),
 )
 
--- src/lib.rt:63:32
-counts-at-requires : tie.Need-counts-at-requires Inv-loop μ-loop
-counts-at-requires c κs = search needs
-
--- src/lib.rt:63:18
-bit-requires : tie.Need-bit-requires Inv-loop μ-loop
-bit-requires c κs = search needs
-
--- src/lib.rt:63:9
 add-ready : tie.Need-add-ready Inv-loop μ-loop
 add-ready c = omega (arith, c .bit .ensures, bit-most (c .before .counts-at .result))
 
--- src/lib.rt:64:9
-add-k : tie.Need-add-k Inv-loop μ-loop
-add-k c = search needs
-
--- src/lib.rt:62:5
-loop-less : tie.Need-loop-less Inv-loop μ-loop
-loop-less c = search needs
-
--- src/lib.rt:62:5
 loop-again : tie.Need-loop-again Inv-loop μ-loop
 loop-again c = let a = c .before .before .before .loop in
     let p = c .before .before .before .before .before .before .before .args in (
@@ -84,7 +51,6 @@ loop-again c = let a = c .before .before .before .loop in
           (t .0, omega (arith, t .1, e, count-next (λ (e : Entry Seat). countsSeat (p .whose) (e .val)) seats (a .k) noSeat m)),
     )
 
--- src/lib.rt:54:1
 returns : tie.Need-returns Inv-loop μ-loop
 returns c = let a = c .before .loop in
     let p = c .before .before .before .before .before .args in (
@@ -100,13 +66,13 @@ ready-seats-spec =
     (tie.spec
     Inv-loop
     μ-loop
-    count-requires
-    rows-within-requires
+    (λ c κs. search needs)
+    (λ c κs. search needs)
     loop-holds
-    counts-at-requires
-    bit-requires
+    (λ c κs. search needs)
+    (λ c κs. search needs)
     add-ready
-    add-k
-    loop-less
+    (λ c. search needs)
+    (λ c. search needs)
     loop-again
     returns)
