@@ -122,9 +122,9 @@ module _ (t : Shard) (r : Reshape) (left right : List Id) (draws : List ℕ) (b 
   drain-planned = go (r .drainBy) (isQuiet r) (boundsStand (r .kind) t b)
     where
       go : (o : Option Epoch) (q s : Bool) → elim o [
-            | none ↦ finished 0 draws (onReshapes (update t (withDrainBy (drainEnd b))) b)
-            | some e ↦ cond q (checked (not s gives NoBoundary ∷ []) (finished 1 draws (scheduled t r left right b))) (finished 0 draws b)
-          ] ≡ planned (cond (isSome o) (cond q (cond s Schedule Unbounded) Wait) Stamp)
+        | none ↦ finished 0 draws (onReshapes (update t (withDrainBy (drainEnd b))) b)
+        | some e ↦ cond q (checked (not s gives NoBoundary ∷ []) (finished 1 draws (scheduled t r left right b))) (finished 0 draws b)
+      ] ≡ planned (cond (isSome o) (cond q (cond s Schedule Unbounded) Wait) Stamp)
       go none q s = refl
       go (some e) true true = refl
       go (some e) true false = refl

@@ -1,75 +1,49 @@
+use Prim.Native.Nat.{_-_, _≤_}
+use mathlib.Core.Path.{_≡_, refl, _∙_}
+use mathlib.Core.Bool.{true}
+use native.Mathlib.Omega.{arith}
+use borrow.Author.Needs.{needs}
+use lib.ListN.{length}
+use Rattle.rules.specs.Board.{Board}
+use Rattle.rules.specs.WellFormed.{wellFormed}
+use Rattle.board.specs.Held.{Holds}
+use Rattle.schedule_merges.proofs.Merges.{Run, run-begins, run-on, run-stops, run-ends}
 use Rattle.schedule_merges.proofs.in_turn.Statement.{statement}
 use Rattle.schedule_merges.proofs.in_turn.Tie as tie
-use Rattle.schedule_merges.proofs.in_turn.Reads as reads
-use Rattle.schedule_merges.proofs.in_turn.Lts as lts
-use Rattle.schedule_merges.proofs.try_schedule_merge.Reads as try-schedule-merge-reads
-use Rattle.steps.proofs.done.Reads as done-reads
 
 abbrev Inv-loop : tie.InvT-loop
-Inv-loop board₀ targets handled₀ i₀ board handled i = ?
+Inv-loop board₀ targets handled₀ i₀ board handled i = (i ≤ length targets) × (handled ≤ i) × (length board ≡ length board₀)
+    × ((b : Board) → Holds board₀ b → wellFormed b ≡ true → Run targets b i handled board)
 
 abbrev μ-loop : tie.MeasureT-loop
-μ-loop board₀ targets handled₀ i₀ board handled i = ?
+μ-loop board₀ targets handled₀ i₀ board handled i = length targets - i
 
--- src/lib.rt:73:5
 loop-holds : tie.Need-loop-holds Inv-loop μ-loop
-loop-holds c = ?
+loop-holds c = (omega arith, omega arith, refl, λ b h ok. run-begins _ b _ h ok)
 
--- src/lib.rt:74:56
-mul-t8 : tie.Need-mul-t8 Inv-loop μ-loop
-mul-t8 c = ?
-
--- src/lib.rt:74:56
-shared-slice-read-t13 : tie.Need-shared-slice-read-t13 Inv-loop μ-loop
-shared-slice-read-t13 c = ?
-
--- src/lib.rt:74:13
 try-schedule-merge-requires : tie.Need-try-schedule-merge-requires Inv-loop μ-loop
-try-schedule-merge-requires c κs = ?
+try-schedule-merge-requires c κs = c .before .before .before .loop .inv .2 ∙ c .before .before .before .before .before .before .pre .0
 
--- src/lib.rt:76:26
-enum-known-turned : tie.Need-enum-known-turned Inv-loop μ-loop
-enum-known-turned c = ?
-
--- src/lib.rt:76:35
 add-handled : tie.Need-add-handled Inv-loop μ-loop
-add-handled c = ?
+add-handled c = let e = c .before .turned .given .1 in
+    let t = rw e at (c .before .before .before .before .before .try-schedule-merge .ensures .0) in
+    omega (arith, t, c .before .before .before .before .before .before .before .before .before .loop .inv .1, c .before .before .before .before .before .before .before .before .before .loop .inv .0, c .before .before .before .before .before .before .before .before .before .before .before .before .pre .1)
 
--- src/lib.rt:77:29
-enum-known-turned-2 : tie.Need-enum-known-turned-2 Inv-loop μ-loop
-enum-known-turned-2 c = ?
-
--- src/lib.rt:78:17
-same-length : tie.Need-same-length Inv-loop μ-loop
-same-length c = ?
-
--- src/lib.rt:78:17
 returns : tie.Need-returns Inv-loop μ-loop
-returns c = ?
+returns c = λ b h ok. let a = c .before .before .before .before .before .before .before .before .before .loop in run-stops _ b _ _ _ _ (a .inv .3 b h ok) (c .before .before .before .before .before .before .before .before .loop-test .taken) _ (c .before .before .before .before .before .try-schedule-merge .ensures .1) _ (c .before .turned2 .given .1)
 
--- src/lib.rt:85:9
-add-i : tie.Need-add-i Inv-loop μ-loop
-add-i c = ?
-
--- src/lib.rt:73:5
-loop-less : tie.Need-loop-less Inv-loop μ-loop
-loop-less c = ?
-
--- src/lib.rt:73:5
 loop-again : tie.Need-loop-again Inv-loop μ-loop
-loop-again c = ?
+loop-again c = let a = c .before .before .before .before .before .before .before .before .before .loop in
+    let e = c .before .turned .given .1 in
+    let t = rw e at (c .before .before .before .before .before .try-schedule-merge .ensures .0) in (
+      omega arith,
+      omega (arith, t, a .inv .1),
+      c .before .before .before .before .before .try-schedule-merge .kept .0 ∙ a .inv .2,
+      λ b h ok. run-on _ b _ _ _ _ (a .inv .3 b h ok) (c .before .before .before .before .before .before .before .before .loop-test .taken) _ (c .before .before .before .before .before .try-schedule-merge .ensures .1) _ _ e,
+    )
 
--- src/lib.rt:87:5
-done-requires : tie.Need-done-requires Inv-loop μ-loop
-done-requires c κs = ?
-
--- src/lib.rt:67:1
-same-length-2 : tie.Need-same-length-2 Inv-loop μ-loop
-same-length-2 c = ?
-
--- src/lib.rt:67:1
 returns-2 : tie.Need-returns-2 Inv-loop μ-loop
-returns-2 c = ?
+returns-2 c = λ b h ok. let a = c .before .before .loop in rw (c .done .ensures) (run-ends _ b _ _ _ (a .inv .3 b h ok) (c .before .loop-test .left))
 
 pub in-turn-spec : {M : Type 1} → statement M
 in-turn-spec =
@@ -78,17 +52,17 @@ in-turn-spec =
     Inv-loop
     μ-loop
     loop-holds
-    mul-t8
-    shared-slice-read-t13
+    (λ c. search needs)
+    (λ c. search needs)
     try-schedule-merge-requires
-    enum-known-turned
+    (λ c. search needs)
     add-handled
-    enum-known-turned-2
-    same-length
+    (λ c. search needs)
+    (λ c. search needs)
     returns
-    add-i
-    loop-less
+    (λ c. search needs)
+    (λ c. search needs)
     loop-again
-    done-requires
-    same-length-2
+    (λ c κs. search needs)
+    (λ c. search needs)
     returns-2)

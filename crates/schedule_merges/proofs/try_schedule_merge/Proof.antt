@@ -1,137 +1,98 @@
+use mathlib.Core.Path.{sym, _∙_}
+use native.Mathlib.Omega.{arith}
+use borrow.Author.Tests.{not-true, not-false}
+use Rattle.drains.specs.declared.Plan.the-variants.{Stamp, Wait, Schedule, Unbounded}
+use Rattle.drains.specs.Plans.{RowOf}
+use Rattle.drains.proofs.Drains.{no-target, row-at, target-small}
+use Rattle.schedule_merges.proofs.Merges.{merge-none, merge-shut, merge-open, turn-told}
 use borrow.Author.Needs.{needs}
 use Rattle.schedule_merges.proofs.try_schedule_merge.Statement.{statement}
 use Rattle.schedule_merges.proofs.try_schedule_merge.Tie as tie
-use Rattle.schedule_merges.proofs.try_schedule_merge.Reads as reads
-use Rattle.schedule_merges.proofs.try_schedule_merge.Lts as lts
-use Rattle.drains.proofs.plan_at.Reads as plan-at-reads
-use Rattle.drains.proofs.schedule.Reads as schedule-reads
-use Rattle.drains.proofs.stamp.Reads as stamp-reads
-use Rattle.rows.proofs.is_target.Reads as is-target-reads
-use Rattle.rows.proofs.reshape_row.Reads as reshape-row-reads
-use Rattle.sampling.proofs.Reader.start.Reads as start-reads
-use Rattle.schedule_merges.proofs.passes_gate.Reads as passes-gate-reads
 
--- src/lib.rt:40:9
-start-requires : tie.Need-start-requires
-start-requires c κs = search needs
-
--- src/lib.rt:41:9
-is-target-requires : tie.Need-is-target-requires
-is-target-requires c κs = search needs
-
--- src/lib.rt:42:9
 returns : tie.Need-returns
-returns c = ?
+returns c = (omega arith, λ b h ok. turn-told _ (c .before .before .start .ensures) _ 0 _ b (merge-none _ _ b (no-target b ok _ (sym (c .before .is-target .ensures) ∙ not-true _ (c .if1 .taken)))) h)
 
--- src/lib.rt:44:9
-reshape-row-requires : tie.Need-reshape-row-requires
-reshape-row-requires c κs = search needs
-
--- src/lib.rt:46:9
-same-length : tie.Need-same-length
-same-length c = search needs
-
--- src/lib.rt:46:9
 returns-2 : tie.Need-returns-2
-returns-2 c = ?
+returns-2 c = (omega arith, λ b h ok. turn-told _ (c .before .before .before .before .before .start .ensures) _ 0 _ b (merge-none _ _ b (c .before .reshape-row .ensures b h ok .missing (c .if2 .taken))) h)
 
--- src/lib.rt:48:9
-passes-gate-requires : tie.Need-passes-gate-requires
-passes-gate-requires c κs = search needs
-
--- src/lib.rt:49:9
-same-length-2 : tie.Need-same-length-2
-same-length-2 c = search needs
-
--- src/lib.rt:49:9
 returns-3 : tie.Need-returns-3
-returns-3 c = ?
+returns-3 c = (
+  omega arith,
+  λ b h ok.
+      let f = c .before .before .before .before .reshape-row .ensures b h ok in
+      let r : RowOf _ _ b = record { inside = f .inside (c .before .before .before .if2 .left); named = f .named (c .before .before .before .if2 .left) } in
+      turn-told _ (c .before .before .before .before .before .before .before .before .start .ensures) _ 0 _ b (merge-shut _ _ b _ (row-at b ok _ _ r) (sym (c .before .passes-gate .ensures b h ok (r .inside)) ∙ not-true _ (c .if3 .taken))) h,
+)
 
--- src/lib.rt:51:9
 plan-at-requires : tie.Need-plan-at-requires
-plan-at-requires c κs = ?
+plan-at-requires c κs = (c .before .before .before .before .before .before .before .before .before .before .before .pre, c .before .before .before .before .if2 .left, target-small _ (sym (c .before .before .before .before .before .before .before .before .is-target .ensures) ∙ not-false _ (c .before .before .before .before .before .before .before .if1 .left)))
 
--- src/lib.rt:54:27
-enum-told : tie.Need-enum-told
-enum-told c = search needs
-
--- src/lib.rt:54:13
-stamp-requires : tie.Need-stamp-requires
-stamp-requires c κs = search needs
-
--- src/lib.rt:57:23
-enum-told-2 : tie.Need-enum-told-2
-enum-told-2 c = search needs
-
--- src/lib.rt:59:30
-enum-told-3 : tie.Need-enum-told-3
-enum-told-3 c = search needs
-
--- src/lib.rt:59:13
 schedule-requires : tie.Need-schedule-requires
-schedule-requires c κs = ?
+schedule-requires c κs = (c .before .before .before .before .before .before .before .before .before .before .before .before .before .before .before .pre, c .before .before .before .before .before .before .before .before .if2 .left, target-small _ (sym (c .before .before .before .before .before .before .before .before .before .before .before .before .is-target .ensures) ∙ not-false _ (c .before .before .before .before .before .before .before .before .before .before .before .if1 .left)))
 
--- src/lib.rt:62:44
-enum-told-4 : tie.Need-enum-told-4
-enum-told-4 c = search needs
-
--- src/lib.rt:36:1
-same-length-3 : tie.Need-same-length-3
-same-length-3 c = search needs
-
--- src/lib.rt:36:1
 returns-4 : tie.Need-returns-4
-returns-4 c = ?
+returns-4 c = (
+  omega arith,
+  λ b h ok.
+      let f = c .before .before .before .before .before .before .before .before .before .before .before .before .reshape-row .ensures b h ok in
+      let r : RowOf _ _ b = record { inside = f .inside (c .before .before .before .before .before .before .before .before .before .before .before .if2 .left); named = f .named (c .before .before .before .before .before .before .before .before .before .before .before .if2 .left) } in
+      turn-told _ (c .before .before .before .before .before .before .before .before .before .before .before .before .before .before .before .before .start .ensures) _ 0 _ _ (merge-open _ _ b _ (row-at b ok _ _ r) (sym (c .before .before .before .before .before .before .before .before .before .passes-gate .ensures b h ok (r .inside)) ∙ not-false _ (c .before .before .before .before .before .before .before .before .if3 .left)) Stamp (sym (c .before .before .before .before .enum-told .given .1) ∙ c .before .before .before .before .before .before .plan-at .ensures b h ok (r .inside)))
+      (c .before .before .stamp .ensures b h ok _ r),
+)
 
--- src/lib.rt:36:1
-same-length-4 : tie.Need-same-length-4
-same-length-4 c = search needs
-
--- src/lib.rt:36:1
 returns-5 : tie.Need-returns-5
-returns-5 c = ?
+returns-5 c = (
+  omega arith,
+  λ b h ok.
+      let f = c .before .before .before .before .before .before .before .before .reshape-row .ensures b h ok in
+      let r : RowOf _ _ b = record { inside = f .inside (c .before .before .before .before .before .before .before .if2 .left); named = f .named (c .before .before .before .before .before .before .before .if2 .left) } in
+      turn-told _ (c .before .before .before .before .before .before .before .before .before .before .before .before .start .ensures) _ 0 _ b (merge-open _ _ b _ (row-at b ok _ _ r) (sym (c .before .before .before .before .before .passes-gate .ensures b h ok (r .inside)) ∙ not-false _ (c .before .before .before .before .if3 .left)) Wait (sym (c .enum-told2 .given .1) ∙ c .before .before .plan-at .ensures b h ok (r .inside))) h,
+)
 
--- src/lib.rt:36:1
-same-length-5 : tie.Need-same-length-5
-same-length-5 c = search needs
-
--- src/lib.rt:36:1
 returns-6 : tie.Need-returns-6
-returns-6 c = ?
+returns-6 c = (
+  omega arith,
+  λ b h ok.
+      let f = c .before .before .before .before .before .before .before .before .before .before .before .before .reshape-row .ensures b h ok in
+      let r : RowOf _ _ b = record { inside = f .inside (c .before .before .before .before .before .before .before .before .before .before .before .if2 .left); named = f .named (c .before .before .before .before .before .before .before .before .before .before .before .if2 .left) } in
+      turn-told _ (c .before .before .before .before .before .before .before .before .before .before .before .before .before .before .before .before .start .ensures) _ 1 _ _ (merge-open _ _ b _ (row-at b ok _ _ r) (sym (c .before .before .before .before .before .before .before .before .before .passes-gate .ensures b h ok (r .inside)) ∙ not-false _ (c .before .before .before .before .before .before .before .before .if3 .left)) Schedule (sym (c .before .before .before .before .enum-told3 .given .1) ∙ c .before .before .before .before .before .before .plan-at .ensures b h ok (r .inside)))
+      (c .before .before .schedule .ensures b h ok r),
+)
 
--- src/lib.rt:36:1
-same-length-6 : tie.Need-same-length-6
-same-length-6 c = search needs
-
--- src/lib.rt:36:1
 returns-7 : tie.Need-returns-7
-returns-7 c = ?
+returns-7 c = (
+  tt,
+  λ b h ok.
+      let f = c .before .before .before .before .before .before .before .before .reshape-row .ensures b h ok in
+      let r : RowOf _ _ b = record { inside = f .inside (c .before .before .before .before .before .before .before .if2 .left); named = f .named (c .before .before .before .before .before .before .before .if2 .left) } in
+      (merge-open _ _ b _ (row-at b ok _ _ r) (sym (c .before .before .before .before .before .passes-gate .ensures b h ok (r .inside)) ∙ not-false _ (c .before .before .before .before .if3 .left)) Unbounded (sym (c .enum-told4 .given .1) ∙ c .before .before .plan-at .ensures b h ok (r .inside)), h),
+)
 
 pub try-schedule-merge-spec : {M : Type 1} → statement M
 try-schedule-merge-spec =
     tie.close
     (tie.spec
-    start-requires
-    is-target-requires
+    (λ c κs. search needs)
+    (λ c κs. search needs)
     returns
-    reshape-row-requires
-    same-length
+    (λ c κs. search needs)
+    (λ c. search needs)
     returns-2
-    passes-gate-requires
-    same-length-2
+    (λ c κs. search needs)
+    (λ c. search needs)
     returns-3
     plan-at-requires
-    enum-told
-    stamp-requires
-    enum-told-2
-    enum-told-3
+    (λ c. search needs)
+    (λ c κs. search needs)
+    (λ c. search needs)
+    (λ c. search needs)
     schedule-requires
-    enum-told-4
-    same-length-3
+    (λ c. search needs)
+    (λ c. search needs)
     returns-4
-    same-length-4
+    (λ c. search needs)
     returns-5
-    same-length-5
+    (λ c. search needs)
     returns-6
-    same-length-6
+    (λ c. search needs)
     returns-7)
