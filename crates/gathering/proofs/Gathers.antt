@@ -24,6 +24,8 @@ use Rattle.sampling.specs.declared.Shuffled.{Shuffled}
 use Rattle.sampling.specs.declared.Shuffled.the-variants as shuffled
 use Rattle.sampling.proofs.Mixes.{shuffle-missing, shuffle-large, shuffle-drew}
 use Rattle.tables.proofs.Bools.{and-is}
+use Rattle.shards.specs.Rotations.{rotationOf}
+use Rattle.shards.specs.declared.rotations.Rotation as code
 use Rattle.board.specs.Held.{noCommittee, noRotation}
 use Rattle.board.proofs.Keyed.{committees-rise}
 use Rattle.board.proofs.Moves.{members-at, members-none}
@@ -44,6 +46,9 @@ module _ (s : Shard) (b : Board) (x : Id) (seated : Bool) (e : seated ≡ says (
   staying-one w q entering r = and-is seated (not entering) ∙ rw (e, r, q)
 
 -- ---- entrants, as a loop looks for one
+
+pub entrant-is : (s : Shard) (x : Id) (r : code.Rotation) (q : Rotation) → rotationOf r ≡ q → (eqb (r .shard .0) s && eqb (r .entrant .0) x) ≡ isEntrant s x q
+entrant-is s x r q e = and-is (eqb (r .shard .0) s) (eqb (r .entrant .0) x) ∙ rw (← e)
 
 module _ (s : Shard) (x : Id) (l : List Rotation) (i : ℕ) (h : i < length l) where
   pub entrant-here : true ≡ isEntrant s x (getD l i noRotation) → has x (entrantsOn s (drop i l)) ≡ true

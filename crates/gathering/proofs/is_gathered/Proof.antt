@@ -29,7 +29,6 @@ is-gathered-spec =
     (λ c κs. search needs)
     (λ c. search needs)
     (λ c κs. search needs)
-    (λ c. search needs)
     returns
     returns-2
     returns-3)
