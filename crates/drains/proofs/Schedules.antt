@@ -1,13 +1,13 @@
 -- A plan applied: the words hold what the definitions make of the board.
 use Prim.Native.Nat.{ℕ, _+_, _≤_, _<_}
-use mathlib.Core.Path.{_≡_, refl, ap, sym, _∙_}
+use mathlib.Core.Path.{_≡_, refl, ap, _∙_}
 use mathlib.Core.List.{List, [], _∷_}
 use mathlib.Core.Option.{none}
 use mathlib.Core.Bool.{true}
 use native.Mathlib.Omega.{arith}
 use lib.ListN.{length, getD, set, length-set}
 use lib.Seq.{getD-set-same, set-set}
-use Rattle.types.specs.Numbers.{Shard, Epoch}
+use Rattle.types.specs.Numbers.{Shard, Id, Epoch}
 use Rattle.types.specs.Shards.{leftOf, rightOf}
 use Rattle.rules.specs.Table.{Entry, Table, at, update}
 use Rattle.rules.specs.Board.{Boundary, Kind, split, merge, Reshape, Board, lastEpoch, onBounds, onReshapes, epochOf}
@@ -74,33 +74,40 @@ unfolding forAll marks
 all-marked f [] b = refl
 all-marked f (s ∷ l) b = all-marked f l (onBounds (update s f) b)
 
-module _ (b : Board) (ok : wellFormed b ≡ true) (t : Shard) (i : ℕ) (at-i : RowOf t i b) (terminal admitted : Epoch) (te : terminal ≡ epochOf b + 1)
-    (ad : admitted ≡ getD (b .reshapes) i noReshape .val .admitted) where
+module _ (b : Board) (ok : wellFormed b ≡ true) (t : Shard) (i : ℕ) (at-i : RowOf t i b) where
   abbrev row : Reshape
   row = getD (b .reshapes) i noReshape .val
 
-  -- the board with its boundaries marked
-  abbrev pub Marked : Board
-  Marked = onBounds (marks (markedBoundary terminal admitted) (oldShards (row .kind) t)) b
+  -- a scheduled reshape, by its row
+  pub scheduled-at : (left right : List Id)
+      → scheduled t row left right b
+      ≡ onReshapes (changeAt noReshape i (withTerminal (epochOf b + 1) left right)) (onBounds (marks (markedBoundary (epochOf b + 1) (row .admitted)) (oldShards (row .kind) t)) b)
+  unfolding scheduled
+  scheduled-at left right =
+      all-marked (markedBoundary (epochOf b + 1) (row .admitted)) (oldShards (row .kind) t) _
+      ∙ rw (update-is-change (b .reshapes) (reshapes-rise b ok) t i noReshape (at-i .inside) (at-i .named) (withTerminal (epochOf b + 1) left right))
 
-  pub terminal-good : isStamp terminal ≡ true
-  terminal-good = rw te (stamp (good-of b ok) 1 (omega arith))
-
-  pub admitted-good : isStamp admitted ≡ true
-  admitted-good = rw ad (fit-at (good-of b ok) t row (at-is (b .reshapes) (reshapes-rise b ok) t i noReshape (at-i .inside) (at-i .named)) .admitted)
-
-  pub marked-alone : (after : List ℕ) → Holds after (forAll (λ s. onBounds (update s (markedBoundary terminal admitted))) (oldShards (row .kind) t) b) → Holds after Marked
-  marked-alone after h = rw (all-marked (markedBoundary terminal admitted) (oldShards (row .kind) t) b) at h
-
-  ended : changeAt noReshape i (withRight (λ l. [])) (changeAt noReshape i (withLeft (λ l. [])) (changeAt noReshape i (atTerminal terminal) (b .reshapes)))
-      ≡ update t (withTerminal terminal [] []) (b .reshapes)
-  ended =
+  ended : (terminal : Epoch) → changeAt noReshape i (withRight (λ l. [])) (changeAt noReshape i (withLeft (λ l. [])) (changeAt noReshape i (atTerminal terminal) (b .reshapes)))
+      ≡ changeAt noReshape i (withTerminal terminal [] []) (b .reshapes)
+  ended terminal =
       ap (changeAt noReshape i (withRight (λ l. []))) (change-twice noReshape i (atTerminal terminal) (withLeft (λ l. [])) (b .reshapes) (at-i .inside))
       ∙ change-twice noReshape i (λ v. withLeft (λ l. []) (atTerminal terminal v)) (withRight (λ l. [])) (b .reshapes) (at-i .inside)
-      ∙ sym (update-is-change (b .reshapes) (reshapes-rise b ok) t i noReshape (at-i .inside) (at-i .named) (withTerminal terminal [] []))
 
-  pub terminal-set : (after : List ℕ)
-      → Holds after (onReshapes (changeAt noReshape i (withRight (λ l. []))) (onReshapes (changeAt noReshape i (withLeft (λ l. []))) (onReshapes (changeAt noReshape i (atTerminal terminal)) Marked)))
-      → Holds after (scheduled t row [] [] b)
-  unfolding scheduled
-  terminal-set after h = rw (all-marked (markedBoundary (epochOf b + 1) (row .admitted)) (oldShards (row .kind) t) _, ← te, ← ad, ← ended) h
+  module _ (terminal admitted : Epoch) (te : terminal ≡ epochOf b + 1) (ad : admitted ≡ row .admitted) where
+    -- the board with its boundaries marked
+    abbrev pub Marked : Board
+    Marked = onBounds (marks (markedBoundary terminal admitted) (oldShards (row .kind) t)) b
+
+    pub terminal-good : isStamp terminal ≡ true
+    terminal-good = rw te (stamp (good-of b ok) 1 (omega arith))
+
+    pub admitted-good : isStamp admitted ≡ true
+    admitted-good = rw ad (fit-at (good-of b ok) t row (at-is (b .reshapes) (reshapes-rise b ok) t i noReshape (at-i .inside) (at-i .named)) .admitted)
+
+    pub marked-alone : (after : List ℕ) → Holds after (forAll (λ s. onBounds (update s (markedBoundary terminal admitted))) (oldShards (row .kind) t) b) → Holds after Marked
+    marked-alone after h = rw (all-marked (markedBoundary terminal admitted) (oldShards (row .kind) t) b) at h
+
+    pub terminal-set : (after : List ℕ)
+        → Holds after (onReshapes (changeAt noReshape i (withRight (λ l. []))) (onReshapes (changeAt noReshape i (withLeft (λ l. []))) (onReshapes (changeAt noReshape i (atTerminal terminal)) Marked)))
+        → Holds after (scheduled t row [] [] b)
+    terminal-set after h = rw (scheduled-at [] [], ← ended (epochOf b + 1)) (rw (te, ad) at h)

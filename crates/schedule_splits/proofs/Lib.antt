@@ -1,0 +1,3 @@
+pub mod Stays
+pub mod Halves
+pub mod Turns
