@@ -1,14 +1,13 @@
 -- Ready seats and the plan of a drain, as the code has them at a row.
 use Prim.Native.Nat.{ℕ, _≤_, _<_}
-use mathlib.Core.Path.{_≡_, refl, ap, sym, _∙_}
+use mathlib.Core.Path.{_≡_, refl, sym, _∙_}
 use mathlib.Core.List.{List, [], _∷_}
 use mathlib.Core.Option.{Option, none, some}
 use mathlib.Core.Bool.{Bool, true, false, cond, not, _&&_, false≢true}
-use native.Mathlib.Omega.{arith}
-use lib.Dec.{eqb, leb}
+use lib.Dec.{eqb}
 use lib.ListN.{length, getD}
 use Rattle.types.specs.Numbers.{Shard, Id, Epoch}
-use Rattle.types.specs.Shards.{leftOf, rightOf, quorum}
+use Rattle.types.specs.Shards.{leftOf, rightOf}
 use Rattle.types.specs.declared.ShardId.{ShardId}
 use Rattle.types.specs.declared.Answer.the-variants.{NoBoundary}
 use Rattle.rules.specs.Lists.{_and_, every}
@@ -79,7 +78,7 @@ module _ (b : Board) (s : Shard) where
   unfolding stands isSome
   stands-here ok i l e = rw (at-is (b .bounds) (bounds-rise b ok) s i noBoundary l e)
 
-and-end : (c : Bool) → (c and true) ≡ c
+pub and-end : (c : Bool) → (c and true) ≡ c
 unfolding _and_
 and-end true = refl
 and-end false = refl

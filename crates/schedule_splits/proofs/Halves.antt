@@ -5,10 +5,9 @@ use mathlib.Core.List.{List, [], _∷_, _++_, append-assoc, append-nil}
 use mathlib.Core.Bool.{Bool, true, false}
 use native.Mathlib.Omega.{arith}
 use native.Mathlib.Numerals.{add-one}
-use lib.ListN.{length, getD, set, take, drop, length-set, length-append, length-take, length-drop}
+use lib.ListN.{length, getD, take, drop, length-set, length-append, length-take, length-drop}
 use lib.Seq.{take-all, take-suc, getD-set-same, set-getD}
 use Rattle.types.specs.Numbers.{Shard, Id}
-use Rattle.rules.specs.Table.{entry, Table}
 use Rattle.rules.specs.Board.{Reshape, Board, mostMembers, mostHalf, onBounds, onReshapes, epochOf}
 use Rattle.rules.specs.WellFormed.{wellFormed}
 use Rattle.rules.specs.Moves.{withTerminal, oldShards, markedBoundary}

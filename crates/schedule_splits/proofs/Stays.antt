@@ -1,5 +1,5 @@
 -- What an abort of a shard's rotations leaves, said on the board before it.
-use Prim.Native.Nat.{ℕ, _+_, _≤_}
+use Prim.Native.Nat.{_≤_}
 use mathlib.Core.Path.{_≡_, refl, ap, sym, _∙_}
 use mathlib.Core.Logic.{_≢_}
 use mathlib.Core.List.{List, [], _∷_}
@@ -10,7 +10,7 @@ use lib.Dec.{eqb}
 use Rattle.types.specs.Numbers.{Shard, Id}
 use Rattle.types.specs.Places.{isSeatedOn}
 use Rattle.types.specs.declared.Place.{Place}
-use Rattle.rules.specs.Lists.{_and_, _or_, bitOf, any, count, keep, has, strike, sort}
+use Rattle.rules.specs.Lists.{_and_, _or_, any, count, keep, has, strike, sort}
 use Rattle.rules.specs.Table.{Table, at}
 use Rattle.rules.specs.Board.{Settings, Boundary, Reshape, Board}
 use Rattle.rules.specs.Moves.{says, membersOf, place, quit, takeOff, forAll, pooledFrom, entrantsOn, abortRotations}
@@ -18,6 +18,7 @@ use Rattle.rules.specs.Schedule.{seatedThere}
 use Rattle.rules.proofs.Counts.{Alike, same, apart, alike, eqb-same, eqb-apart, occ, hit-same}
 use Rattle.rules.proofs.KeptTables.{at-update, at-other, holds-same}
 use Rattle.rules.proofs.Turns.{forAll-keeps}
+use Rattle.drains.proofs.Drains.{and-end}
 
 -- ---- lists
 
@@ -106,17 +107,13 @@ module _ (t : Shard) (b : Board) where
       ap (λ (l : List Id). sort (keep (says (isSeatedOn t) (abortRotations t b)) l)) (all-members t entrants b)
       ∙ ap sort (keep-keep (says (isSeatedOn t) (abortRotations t b)) (λ y. not (has y entrants)) _ (λ y. go y (has y entrants) refl) (membersOf t b))
     where
-      swap : (c : Bool) → (c and false) ≡ false
-      swap true = refl
-      swap false = refl
-
-      swap-true : (c : Bool) → (c and true) ≡ c
-      swap-true true = refl
-      swap-true false = refl
+      never : (c : Bool) → (c and false) ≡ false
+      never true = refl
+      never false = refl
 
       go : (y : Id) (c : Bool) → has y entrants ≡ c → (says (isSeatedOn t) b y and not (has y entrants)) ≡ (not (has y entrants) and says (isSeatedOn t) (abortRotations t b) y)
-      go y true u = rw u (swap (says (isSeatedOn t) b y))
-      go y false u = rw (u, stayer-says (isSeatedOn t) y u) (swap-true (says (isSeatedOn t) b y))
+      go y true u = rw u (never (says (isSeatedOn t) b y))
+      go y false u = rw (u, stayer-says (isSeatedOn t) y u) (and-end (says (isSeatedOn t) b y))
 
   -- the rest of the board is as it was
   abbrev made : Settings → Table Boundary → Table Reshape → Board

@@ -13,9 +13,9 @@ use Rattle.types.specs.Places.{isSeatedOn, isReady}
 use Rattle.types.specs.declared.Answer.{Answer}
 use Rattle.types.specs.declared.Answer.the-variants as answers
 use Rattle.types.specs.declared.Outcome.{Outcome}
-use Rattle.rules.specs.Lists.{_and_, count, keep, has, sort}
+use Rattle.rules.specs.Lists.{_and_, count, has, sort}
 use Rattle.rules.specs.Table.{Table, at, countWhere}
-use Rattle.rules.specs.Board.{split, Reshape, Board, Settings, mostReshapes, sizeOf}
+use Rattle.rules.specs.Board.{split, Reshape, Board, mostReshapes, sizeOf}
 use Rattle.rules.specs.WellFormed.{wellFormed}
 use Rattle.rules.specs.Draws.{Drawn, drew, shuffle}
 use Rattle.rules.specs.Moves.{says, membersOf, entrantsOn, abortRotations, boundsStand}
@@ -45,7 +45,7 @@ use Rattle.drains.specs.declared.Plan.{Plan}
 use Rattle.drains.specs.Plans.{RowOf, planOf}
 use Rattle.drains.proofs.Drains.{planned, drain-planned, row-at}
 use Rattle.schedule_splits.specs.Gate.{lefts, rights, Stay, Gate, Within}
-use Rattle.schedule_splits.proofs.Stays.{count-same, stayer-says, seated-stay, Aborted, abort-rest}
+use Rattle.schedule_splits.proofs.Stays.{count-same, stayer-says, seated-stay, abort-rest}
 
 -- ---- the gate
 
@@ -114,9 +114,9 @@ module _ (t : Shard) (b : Board) where
       pass-shut n = go (at t (aborted .reshapes)) refl
         where
           go : (o : Option Reshape) → at t (aborted .reshapes) ≡ o → elim o [
-                | none ↦ finished 0 draws aborted
-                | some r ↦ cond (splitGate t (lefts ids) (rights ids) r aborted) (drainOrSchedule t r (lefts ids) (rights ids) draws aborted) (finished 0 draws aborted)
-              ] ≡ finished 0 draws aborted
+            | none ↦ finished 0 draws aborted
+            | some r ↦ cond (splitGate t (lefts ids) (rights ids) r aborted) (drainOrSchedule t r (lefts ids) (rights ids) draws aborted) (finished 0 draws aborted)
+          ] ≡ finished 0 draws aborted
           go none e = refl
           go (some r) e = rw (gate-kept r ∙ n r (sym (ap (at t) reshapes-kept) ∙ e))
 

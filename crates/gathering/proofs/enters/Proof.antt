@@ -30,13 +30,13 @@ returns c = λ b h.
 
 loop-again : tie.Need-loop-again Inv-loop μ-loop
 loop-again c = let a = c .before .before .before .loop in (
-      omega arith,
-      a .inv .1,
-      λ b h.
-          let t = a .inv .2 b h in
-          let l : a .i < length (b .rotations) = omega (arith, t .0, c .before .before .loop-test .taken) in
-          (t .0, sym (entrant-later _ _ (b .rotations) (a .i) l (sym (c .if1 .left) ∙ c .before .enters-at .ensures b h l)) ∙ t .1),
-    )
+  omega arith,
+  a .inv .1,
+  λ b h.
+      let t = a .inv .2 b h in
+      let l : a .i < length (b .rotations) = omega (arith, t .0, c .before .before .loop-test .taken) in
+      (t .0, sym (entrant-later _ _ (b .rotations) (a .i) l (sym (c .if1 .left) ∙ c .before .enters-at .ensures b h l)) ∙ t .1),
+)
 
 returns-2 : tie.Need-returns-2 Inv-loop μ-loop
 returns-2 c = λ b h.

@@ -1,4 +1,4 @@
-use Prim.Native.Nat.{_+_, _-_, _≤_, _<_}
+use Prim.Native.Nat.{_+_, _-_, _≤_}
 use mathlib.Core.Path.{_≡_, refl, ap, _∙_}
 use mathlib.Core.Bool.{true}
 use native.Mathlib.Omega.{arith}
@@ -14,11 +14,6 @@ use Rattle.pool.proofs.Pools.{bit-most}
 use Rattle.committee.proofs.Asked.{count-next, count-none}
 use Rattle.schedule_splits.proofs.ready_members.Statement.{statement}
 use Rattle.schedule_splits.proofs.ready_members.Tie as tie
-use Rattle.schedule_splits.proofs.ready_members.Reads as reads
-use Rattle.schedule_splits.proofs.ready_members.Lts as lts
-use Rattle.board.proofs.machines.bit.Reads as bit-reads
-use Rattle.rows.proofs.place_of.Reads as place-of-reads
-use Rattle.types.proofs.Place.is_ready.Reads as is-ready-reads
 
 abbrev Inv-loop : tie.InvT-loop
 Inv-loop board ids ready₀ k₀ ready k = (k ≤ length ids) × (ready ≤ k)
@@ -27,43 +22,12 @@ Inv-loop board ids ready₀ k₀ ready k = (k ≤ length ids) × (ready ≤ k)
 abbrev μ-loop : tie.MeasureT-loop
 μ-loop board ids ready₀ k₀ ready k = length ids - k
 
--- src/lib.rt:48:5
 loop-holds : tie.Need-loop-holds Inv-loop μ-loop
 loop-holds c = (omega arith, omega arith, λ b h ok. omega arith)
 
--- src/lib.rt:49:51
-mul-ready : tie.Need-mul-ready Inv-loop μ-loop
-mul-ready c = search needs
-
--- src/lib.rt:49:51
-shared-slice-read-ready : tie.Need-shared-slice-read-ready Inv-loop μ-loop
-shared-slice-read-ready c = search needs
-
--- src/lib.rt:49:13
-place-of-requires : tie.Need-place-of-requires Inv-loop μ-loop
-place-of-requires c κs = search needs
-
--- src/lib.rt:50:32
-is-ready-requires : tie.Need-is-ready-requires Inv-loop μ-loop
-is-ready-requires c κs = search needs
-
--- src/lib.rt:50:18
-bit-requires : tie.Need-bit-requires Inv-loop μ-loop
-bit-requires c κs = search needs
-
--- src/lib.rt:50:9
 add-ready : tie.Need-add-ready Inv-loop μ-loop
 add-ready c = omega (arith, c .bit .ensures, bit-most (c .before .is-ready .result))
 
--- src/lib.rt:51:9
-add-k : tie.Need-add-k Inv-loop μ-loop
-add-k c = search needs
-
--- src/lib.rt:48:5
-loop-less : tie.Need-loop-less Inv-loop μ-loop
-loop-less c = search needs
-
--- src/lib.rt:48:5
 loop-again : tie.Need-loop-again Inv-loop μ-loop
 loop-again c = let a = c .before .before .before .before .before .loop in
     let ids = c .before .before .before .before .before .before .before .before .args .ids .now in (
@@ -74,7 +38,6 @@ loop-again c = let a = c .before .before .before .before .before .loop in
           omega (arith, a .inv .2 b h ok, e, count-next (says isReady b) ids (a .k) 0 (c .before .before .before .before .loop-test .taken)),
     )
 
--- src/lib.rt:42:1
 returns : tie.Need-returns Inv-loop μ-loop
 returns c = let a = c .before .loop in
     let ids = c .before .before .before .before .args .ids .now in (
@@ -89,13 +52,13 @@ ready-members-spec =
     Inv-loop
     μ-loop
     loop-holds
-    mul-ready
-    shared-slice-read-ready
-    place-of-requires
-    is-ready-requires
-    bit-requires
+    (λ c. search needs)
+    (λ c. search needs)
+    (λ c κs. search needs)
+    (λ c κs. search needs)
+    (λ c κs. search needs)
     add-ready
-    add-k
-    loop-less
+    (λ c. search needs)
+    (λ c. search needs)
     loop-again
     returns)

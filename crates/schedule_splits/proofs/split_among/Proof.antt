@@ -3,36 +3,10 @@ use native.Mathlib.Omega.{arith}
 use Rattle.schedule_splits.proofs.Turns.{split-drew, split-stays, split-lacks, tells-same, within-more}
 use Rattle.schedule_splits.proofs.split_among.Statement.{statement}
 use Rattle.schedule_splits.proofs.split_among.Tie as tie
-use Rattle.schedule_splits.proofs.split_among.Reads as reads
-use Rattle.schedule_splits.proofs.split_among.Lts as lts
-use Rattle.gathering.proofs.mix.Reads as mix-reads
-use Rattle.schedule_splits.proofs.schedule_halves.Reads as schedule-halves-reads
 
--- src/lib.rt:178:9
-mix-requires : tie.Need-mix-requires
-mix-requires c κs = search needs
-
--- src/lib.rt:180:21
-enum-known-mixed : tie.Need-enum-known-mixed
-enum-known-mixed c = search needs
-
--- src/lib.rt:180:30
 schedule-halves-requires : tie.Need-schedule-halves-requires
 schedule-halves-requires c κs = (c .before .before .before .before .before .before .before .before .before .before .before .before .pre .0, omega (arith, c .before .before .before .before .before .before .before .mix .ensures .0, c .before .before .before .before .before .before .before .before .before .before .before .before .pre .1))
 
--- src/lib.rt:181:24
-enum-known-mixed-2 : tie.Need-enum-known-mixed-2
-enum-known-mixed-2 c = search needs
-
--- src/lib.rt:167:1
-same-length : tie.Need-same-length
-same-length c = search needs
-
--- src/lib.rt:167:1
-same-length-2 : tie.Need-same-length-2
-same-length-2 c = search needs
-
--- src/lib.rt:167:1
 returns : tie.Need-returns
 returns c = let d = rw (c .before .before .before .before .before .before .mixed .given .1) at (c .before .before .before .before .before .before .before .before .before .before .mix .ensures .1) in
     let s = c .before .before .schedule-halves in
@@ -41,11 +15,6 @@ returns c = let d = rw (c .before .before .before .before .before .before .mixed
       λ b h ok e. tells-same draws _ b _ _ (s .result) (split-drew _ b _ _ e _ _ (d .drawn)) (s .ensures .1 b h ok (split-stays _ b _ _ e _ _ (d .drawn)) draws (d .read)),
     )
 
--- src/lib.rt:167:1
-same-length-3 : tie.Need-same-length-3
-same-length-3 c = search needs
-
--- src/lib.rt:167:1
 returns-2 : tie.Need-returns-2
 returns-2 c = let d = rw (c .before .mixed2 .given .1) at (c .before .before .before .before .before .mix .ensures .1) in (tt, λ b h ok e. (split-lacks _ b _ _ e _ d, h))
 
@@ -53,12 +22,12 @@ pub split-among-spec : {M : Type 1} → statement M
 split-among-spec =
     tie.close
     (tie.spec
-    mix-requires
-    enum-known-mixed
+    (λ c κs. search needs)
+    (λ c. search needs)
     schedule-halves-requires
-    enum-known-mixed-2
-    same-length
-    same-length-2
+    (λ c. search needs)
+    (λ c. search needs)
+    (λ c. search needs)
     returns
-    same-length-3
+    (λ c. search needs)
     returns-2)

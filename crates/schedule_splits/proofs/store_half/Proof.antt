@@ -9,9 +9,6 @@ use Rattle.schedule_splits.specs.Gate.{halfOf}
 use Rattle.schedule_splits.proofs.Halves.{With, none-stored, half-long, one-stored, all-stored}
 use Rattle.schedule_splits.proofs.store_half.Statement.{statement}
 use Rattle.schedule_splits.proofs.store_half.Tie as tie
-use Rattle.schedule_splits.proofs.store_half.Reads as reads
-use Rattle.schedule_splits.proofs.store_half.Lts as lts
-use Rattle.schedule_splits.proofs.push.Reads as push-reads
 
 abbrev Inv-loop : tie.InvT-loop
 Inv-loop board₀ i left half k₀ board k = (k ≤ length half) × (length board ≡ length board₀)
@@ -20,31 +17,12 @@ Inv-loop board₀ i left half k₀ board k = (k ≤ length half) × (length boar
 abbrev μ-loop : tie.MeasureT-loop
 μ-loop board₀ i left half k₀ board k = length half - k
 
--- src/lib.rt:116:5
 loop-holds : tie.Need-loop-holds Inv-loop μ-loop
 loop-holds c = (omega arith, refl, λ b h l m. none-stored b _ l (c .before .before .args .left) _ h)
 
--- src/lib.rt:117:42
-mul-t6 : tie.Need-mul-t6 Inv-loop μ-loop
-mul-t6 c = search needs
-
--- src/lib.rt:117:42
-shared-slice-read-t12 : tie.Need-shared-slice-read-t12 Inv-loop μ-loop
-shared-slice-read-t12 c = search needs
-
--- src/lib.rt:117:9
 push-requires : tie.Need-push-requires Inv-loop μ-loop
 push-requires c κs = (c .before .before .before .loop .inv .1 ∙ c .before .before .before .before .before .before .pre .0, c .before .before .before .before .before .before .pre .1)
 
--- src/lib.rt:118:9
-add-k : tie.Need-add-k Inv-loop μ-loop
-add-k c = search needs
-
--- src/lib.rt:116:5
-loop-less : tie.Need-loop-less Inv-loop μ-loop
-loop-less c = search needs
-
--- src/lib.rt:116:5
 loop-again : tie.Need-loop-again Inv-loop μ-loop
 loop-again c = let a = c .before .before .before .before .before .before .loop in
     let p = c .before .before .before .before .before .before .before .before .before .args in (
@@ -56,11 +34,6 @@ loop-again c = let a = c .before .before .before .before .before .before .loop i
           one-stored b (p .i) l (p .left) (p .half .now) (a .k) (c .before .before .before .before .before .loop-test .taken) _ (c .before .before .push .ensures _ (a .inv .2 b h l m) (simp length-set l) (omega (arith, d, r, c .before .before .before .before .before .loop-test .taken))),
     )
 
--- src/lib.rt:110:1
-same-length : tie.Need-same-length Inv-loop μ-loop
-same-length c = search needs
-
--- src/lib.rt:110:1
 returns : tie.Need-returns Inv-loop μ-loop
 returns c = λ b h l m.
     let a = c .before .loop in
@@ -74,11 +47,11 @@ store-half-spec =
     Inv-loop
     μ-loop
     loop-holds
-    mul-t6
-    shared-slice-read-t12
+    (λ c. search needs)
+    (λ c. search needs)
     push-requires
-    add-k
-    loop-less
+    (λ c. search needs)
+    (λ c. search needs)
     loop-again
-    same-length
+    (λ c. search needs)
     returns)
