@@ -1,3 +1,2 @@
 pub mod Stays
-pub mod Halves
 pub mod Turns

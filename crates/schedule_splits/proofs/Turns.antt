@@ -1,21 +1,19 @@
--- A split's turn, as the code has it: the gate, the draws, each way out; and the turns in a row.
+-- A split's turn, as the code has it: the draws, each way out; and the turns in a row.
 use Prim.Native.Nat.{ℕ, _+_, _≤_, _<_}
 use mathlib.Core.Path.{_≡_, refl, ap, sym, subst, _∙_}
 use mathlib.Core.List.{List}
-use mathlib.Core.Option.{Option, none, some, Option·none-ne-some, Option·some-injective}
-use mathlib.Core.Bool.{Bool, true, false, cond, not, _&&_}
+use mathlib.Core.Option.{Option, none, some}
+use mathlib.Core.Bool.{Bool, true, false, cond, not}
 use native.Mathlib.Omega.{arith}
-use lib.Dec.{eqb, leb}
 use lib.ListN.{length, getD}
 use Rattle.types.specs.Numbers.{Shard, Id}
-use Rattle.types.specs.Shards.{leftOf, rightOf, quorum}
 use Rattle.types.specs.Places.{isSeatedOn, isReady}
 use Rattle.types.specs.declared.Answer.{Answer}
 use Rattle.types.specs.declared.Answer.the-variants as answers
 use Rattle.types.specs.declared.Outcome.{Outcome}
 use Rattle.rules.specs.Lists.{_and_, count, has, sort}
-use Rattle.rules.specs.Table.{Table, at, countWhere}
-use Rattle.rules.specs.Board.{split, Reshape, Board, mostReshapes, sizeOf}
+use Rattle.rules.specs.Table.{Table, at}
+use Rattle.rules.specs.Board.{split, Reshape, Board}
 use Rattle.rules.specs.WellFormed.{wellFormed}
 use Rattle.rules.specs.Draws.{Drawn, drew, shuffle}
 use Rattle.rules.specs.Moves.{says, membersOf, entrantsOn, abortRotations, boundsStand}
@@ -29,7 +27,6 @@ use Rattle.rules.proofs.KeptBoard.{good-of, of-good}
 use Rattle.rules.proofs.KeptMoves.{good-abort}
 use Rattle.rules.proofs.KeptSchedule.{Splits, all-splits, split-finishes}
 use Rattle.rules.proofs.Draws.{schedule-split-reads}
-use Rattle.tables.proofs.Bools.{and-is}
 use Rattle.board.specs.Held.{Holds, noReshape}
 use Rattle.steps.specs.Inner.{outcome, Step}
 use Rattle.sampling.specs.declared.Reader.{Reader}
@@ -44,35 +41,9 @@ use Rattle.batches.proofs.Loop.{turn-done, turn-refused}
 use Rattle.drains.specs.declared.Plan.{Plan}
 use Rattle.drains.specs.Plans.{RowOf, planOf}
 use Rattle.drains.proofs.Drains.{planned, drain-planned, row-at}
-use Rattle.schedule_splits.specs.Gate.{lefts, rights, Stay, Gate, Within}
+use Rattle.halving.specs.Gate.{lefts, rights}
+use Rattle.schedule_splits.specs.Within.{Stay, Within}
 use Rattle.schedule_splits.proofs.Stays.{count-same, stayer-says, seated-stay, abort-rest}
-
--- ---- the gate
-
-pub half-is : (c : Shard) (half : List Id) (r : Reshape) (b : Board) (members seats : ℕ) → members ≡ count (says isReady b) half
-    → seats ≡ countWhere (λ q. eqb (q .child) c and q .ready) (r .seats) → leb (quorum (sizeOf b)) (members + seats) ≡ leb (quorum (sizeOf b)) (readyFor c half r b)
-unfolding readyFor
-half-is c half r b members seats e f = rw (e, f)
-
-module _ (t : Shard) (ids : List Id) (b : Board) where
-  pub gate-is : (r : Reshape) (l q : Bool) (right : List Id) → right ≡ rights ids → l ≡ leb (quorum (sizeOf b)) (readyFor (leftOf t) (lefts ids) r b)
-      → q ≡ leb (quorum (sizeOf b)) (readyFor (rightOf t) right r b) → (l && q) ≡ splitGate t (lefts ids) (rights ids) r b
-  unfolding splitGate
-  gate-is r l q right d e f = and-is l q ∙ rw (e, f, d)
-
-  pub gate-none : at t (b .reshapes) ≡ none → Gate t ids b mostReshapes
-  gate-none n = record { row = λ h. absurd (omega arith); opens = λ h. absurd (omega arith); shut = λ h q e. absurd (Option·none-ne-some q (sym n ∙ e)) }
-
-  module _ (i : ℕ) (r : RowOf t i b) where
-    pub gate-open : i < mostReshapes → splitGate t (lefts ids) (rights ids) (getD (b .reshapes) i noReshape .val) b ≡ true → Gate t ids b i
-    gate-open l y = record { row = λ h. r; opens = λ h. y; shut = λ h. absurd (omega arith) }
-
-    pub gate-shut : wellFormed b ≡ true → splitGate t (lefts ids) (rights ids) (getD (b .reshapes) i noReshape .val) b ≡ false → Gate t ids b mostReshapes
-    gate-shut ok n = record {
-      row = λ h. absurd (omega arith);
-      opens = λ h. absurd (omega arith);
-      shut = λ h q e. subst (λ (x : Reshape). splitGate t (lefts ids) (rights ids) x b ≡ false) (Option·some-injective _ q (sym (row-at b ok t i r) ∙ e)) n;
-    }
 
 -- ---- after the abort
 

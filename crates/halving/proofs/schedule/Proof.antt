@@ -1,9 +1,9 @@
-use Rattle.schedule_splits.proofs.Halves.{base-holds, base-inside, left-room, lefts-inside, right-room, halves-set, lent-rest}
+use Rattle.halving.proofs.Halves.{base-holds, base-inside, left-room, lefts-inside, right-room, halves-set, lent-rest}
 use borrow.Author.Needs.{needs}
 use native.Mathlib.Omega.{arith}
 use lib.ListN.{length-take}
-use Rattle.schedule_splits.proofs.schedule.Statement.{statement}
-use Rattle.schedule_splits.proofs.schedule.Tie as tie
+use Rattle.halving.proofs.schedule.Statement.{statement}
+use Rattle.halving.proofs.schedule.Tie as tie
 
 slice-aggregate-store-half : tie.Need-slice-aggregate-store-half
 slice-aggregate-store-half c = rw length-take (omega arith)

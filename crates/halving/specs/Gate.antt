@@ -6,16 +6,12 @@ use mathlib.Core.Option.{some}
 use mathlib.Core.Bool.{Bool, true, false}
 use lib.ListN.{length, getD, take, drop}
 use Rattle.types.specs.Numbers.{Shard, Id}
-use Rattle.rules.specs.Lists.{has}
 use Rattle.rules.specs.Table.{at}
 use Rattle.rules.specs.Board.{Reshape, Board, mostReshapes}
-use Rattle.rules.specs.Moves.{entrantsOn}
 use Rattle.rules.specs.Reshapes.{halfUp}
 use Rattle.rules.specs.Schedule.{splitGate}
 use Rattle.board.specs.Held.{noReshape}
 use Rattle.reshapes.specs.Changes.{withLeft, withRight}
-use Rattle.pool.specs.declared.Turned.{Turned}
-use Rattle.pool.specs.declared.Turned.the-variants.{Done, Refused}
 use Rattle.drains.specs.Plans.{RowOf}
 
 abbrev pub lefts : List Id → List Id
@@ -32,17 +28,8 @@ abbrev pub halfOf : Bool → Reshape → List Id
 halfOf true r = r .left
 halfOf false r = r .right
 
--- none of them is the entrant of a rotation on the shard
-abbrev pub Stay : Shard → List Id → Board → Type 0
-Stay t ids b = (y : Id) → has y ids ≡ true → has y (entrantsOn t (b .rotations)) ≡ false
-
 -- r is the row of the shard's reshape, which passes the gate; or r is past the room for rows, and none passes it
 pub record Gate (t : Shard) (ids : List Id) (b : Board) (r : ℕ) : Type 0 where
   pub row : r < mostReshapes → RowOf t r b
   pub opens : r < mostReshapes → splitGate t (lefts ids) (rights ids) (getD (b .reshapes) r noReshape .val) b ≡ true
   pub shut : mostReshapes ≤ r → (q : Reshape) → at t (b .reshapes) ≡ some q → splitGate t (lefts ids) (rights ids) q b ≡ false
-
--- a turn handles its shard or not, and its reader is not past a place, whatever the words hold
-abbrev pub Within : ℕ → Turned → Type 0
-Within most (Done n left) = (n ≤ 1) × (left .at ≤ most)
-Within most (Refused a) = Unit {0}

@@ -1,12 +1,12 @@
-use Rattle.schedule_splits.proofs.Halves.{lent-rest}
+use Rattle.halving.proofs.Halves.{lent-rest}
 use lib.ListN.{getD}
 use Rattle.board.specs.Held.{noReshape}
 use native.Mathlib.Omega.{arith}
 use lib.ListN.{length-take}
-use Rattle.schedule_splits.proofs.Turns.{gate-is}
+use Rattle.halving.proofs.Gates.{gate-is}
 use borrow.Author.Needs.{needs}
-use Rattle.schedule_splits.proofs.passes_gate.Statement.{statement}
-use Rattle.schedule_splits.proofs.passes_gate.Tie as tie
+use Rattle.halving.proofs.passes_gate.Statement.{statement}
+use Rattle.halving.proofs.passes_gate.Tie as tie
 
 slice-aggregate-is-half-ready : tie.Need-slice-aggregate-is-half-ready
 slice-aggregate-is-half-ready c = rw length-take (omega arith)

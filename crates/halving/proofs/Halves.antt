@@ -17,7 +17,7 @@ use Rattle.board.specs.Held.{Holds, noReshape}
 use Rattle.board.specs.Leaves.{changeAt}
 use Rattle.drains.specs.Plans.{RowOf}
 use Rattle.drains.proofs.Schedules.{change-twice, marks, scheduled-at}
-use Rattle.schedule_splits.specs.Gate.{lefts, rights, onHalf, halfOf}
+use Rattle.halving.specs.Gate.{lefts, rights, onHalf, halfOf}
 
 -- the rest of a list, as the code lends it
 pub lent-rest : (ids : List Id) → take (length ids - halfUp (length ids)) (drop (halfUp (length ids)) ids) ≡ rights ids

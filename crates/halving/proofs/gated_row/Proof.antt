@@ -3,10 +3,10 @@ use native.Mathlib.Omega.{arith}
 use borrow.Author.Tests.{not-true, not-false}
 use Rattle.drains.specs.Plans.{RowOf}
 use Rattle.drains.proofs.Drains.{no-target, target-small}
-use Rattle.schedule_splits.proofs.Turns.{gate-none, gate-open, gate-shut}
+use Rattle.halving.proofs.Gates.{gate-none, gate-open, gate-shut}
 use borrow.Author.Needs.{needs}
-use Rattle.schedule_splits.proofs.gated_row.Statement.{statement}
-use Rattle.schedule_splits.proofs.gated_row.Tie as tie
+use Rattle.halving.proofs.gated_row.Statement.{statement}
+use Rattle.halving.proofs.gated_row.Tie as tie
 
 returns : tie.Need-returns
 returns c = (λ l. absurd (omega arith), λ b h ok. gate-none _ _ b (no-target b ok _ (sym (c .before .is-target .ensures) ∙ not-true _ (c .if1 .taken))))

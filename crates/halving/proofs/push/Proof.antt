@@ -1,6 +1,6 @@
 use borrow.Author.Needs.{needs}
-use Rattle.schedule_splits.proofs.push.Statement.{statement}
-use Rattle.schedule_splits.proofs.push.Tie as tie
+use Rattle.halving.proofs.push.Statement.{statement}
+use Rattle.halving.proofs.push.Tie as tie
 
 returns : tie.Need-returns
 returns c = λ b h l m.

@@ -12,8 +12,8 @@ use Rattle.rules.specs.Moves.{says}
 use Rattle.board.specs.Held.{Holds}
 use Rattle.pool.proofs.Pools.{bit-most}
 use Rattle.committee.proofs.Asked.{count-next, count-none}
-use Rattle.schedule_splits.proofs.ready_members.Statement.{statement}
-use Rattle.schedule_splits.proofs.ready_members.Tie as tie
+use Rattle.halving.proofs.ready_members.Statement.{statement}
+use Rattle.halving.proofs.ready_members.Tie as tie
 
 abbrev Inv-loop : tie.InvT-loop
 Inv-loop board ids ready₀ k₀ ready k = (k ≤ length ids) × (ready ≤ k)

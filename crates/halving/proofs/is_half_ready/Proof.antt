@@ -1,8 +1,8 @@
 use mathlib.Core.Path.{_∙_}
-use Rattle.schedule_splits.proofs.Turns.{half-is}
+use Rattle.halving.proofs.Gates.{half-is}
 use borrow.Author.Needs.{needs}
-use Rattle.schedule_splits.proofs.is_half_ready.Statement.{statement}
-use Rattle.schedule_splits.proofs.is_half_ready.Tie as tie
+use Rattle.halving.proofs.is_half_ready.Statement.{statement}
+use Rattle.halving.proofs.is_half_ready.Tie as tie
 
 returns : tie.Need-returns
 returns c = λ b h ok l. c .reaches-quorum .ensures b h ok ∙ half-is _ _ _ b _ _ (c .before .before .ready-members .ensures .1 b h ok) (c .before .ready-seats .ensures .1 b h l)

@@ -5,10 +5,10 @@ use borrow.Author.Needs.{needs}
 use lib.ListN.{length, getD, take, length-set, length-take}
 use Rattle.rules.specs.Board.{Board, mostHalf}
 use Rattle.board.specs.Held.{Holds, noReshape}
-use Rattle.schedule_splits.specs.Gate.{halfOf}
-use Rattle.schedule_splits.proofs.Halves.{With, none-stored, half-long, one-stored, all-stored}
-use Rattle.schedule_splits.proofs.store_half.Statement.{statement}
-use Rattle.schedule_splits.proofs.store_half.Tie as tie
+use Rattle.halving.specs.Gate.{halfOf}
+use Rattle.halving.proofs.Halves.{With, none-stored, half-long, one-stored, all-stored}
+use Rattle.halving.proofs.store_half.Statement.{statement}
+use Rattle.halving.proofs.store_half.Tie as tie
 
 abbrev Inv-loop : tie.InvT-loop
 Inv-loop board₀ i left half k₀ board k = (k ≤ length half) × (length board ≡ length board₀)
