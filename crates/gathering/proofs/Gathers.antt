@@ -5,29 +5,33 @@ use mathlib.Core.List.{List, [], _∷_, _++_, append-assoc, append-nil}
 use mathlib.Core.Option.{none}
 use mathlib.Core.Bool.{Bool, true, false, cond, not, _&&_}
 use native.Mathlib.Numerals.{add-one}
+use lib.Dec.{eqb}
 use lib.ListN.{length, getD, take, drop, set, drop-of-length-le}
 use lib.Seq.{drop-cons, take-suc-set}
 use Rattle.types.specs.Numbers.{Shard, Id}
 use Rattle.types.specs.Places.{isSeatedOn, isReady}
 use Rattle.types.specs.declared.Answer.the-variants.{DrawMissing, DrawTooLarge}
-use Rattle.rules.specs.Lists.{keep, sort}
+use Rattle.rules.specs.Lists.{_and_, _or_, any, keep, has, sort}
 use Rattle.rules.specs.Table.{at}
-use Rattle.rules.specs.Board.{Board}
+use Rattle.rules.specs.Board.{Rotation, Board}
 use Rattle.rules.specs.WellFormed.{wellFormed}
 use Rattle.rules.specs.Draws.{shuffle}
-use Rattle.rules.specs.Moves.{says}
+use Rattle.rules.specs.Moves.{says, isOn, entrantsOn}
+use Rattle.rules.proofs.Tests.{and-parts, or-left}
 use Rattle.sampling.specs.Reads.{GivesShuffle, mixed}
 use Rattle.sampling.specs.declared.Reader.{Reader}
 use Rattle.sampling.specs.declared.Shuffled.{Shuffled}
 use Rattle.sampling.specs.declared.Shuffled.the-variants as shuffled
 use Rattle.sampling.proofs.Mixes.{shuffle-missing, shuffle-large, shuffle-drew}
 use Rattle.tables.proofs.Bools.{and-is}
-use Rattle.board.specs.Held.{noCommittee}
+use Rattle.shards.specs.Rotations.{rotationOf}
+use Rattle.shards.specs.declared.rotations.Rotation as code
+use Rattle.board.specs.Held.{noCommittee, noRotation}
 use Rattle.board.proofs.Keyed.{committees-rise}
 use Rattle.board.proofs.Moves.{members-at, members-none}
 use Rattle.gathering.specs.declared.Members.{Members}
-use Rattle.gathering.specs.declared.Members.the-variants.{Ready, Waiting, Seated}
-use Rattle.gathering.specs.Gathered.{isGathered, taken, gathered, Drew, Lacks, lacking, large}
+use Rattle.gathering.specs.declared.Members.the-variants.{Ready, Waiting, Staying}
+use Rattle.gathering.specs.Gathered.{isEntrant, isGathered, taken, gathered, Drew, Lacks, lacking, large}
 
 -- ---- a member's place
 
@@ -38,8 +42,30 @@ module _ (s : Shard) (b : Board) (x : Id) (seated : Bool) (e : seated ≡ says (
   pub waiting-one : (w : Members) → w ≡ Waiting → (ready : Bool) → ready ≡ says isReady b x → (seated && not ready) ≡ isGathered w s b x
   waiting-one w q ready r = and-is seated (not ready) ∙ rw (e, r, q)
 
-  pub any-seated : (w : Members) → w ≡ Seated → seated ≡ isGathered w s b x
-  any-seated w q = rw (e, q)
+  pub staying-one : (w : Members) → w ≡ Staying → (entering : Bool) → entering ≡ has x (entrantsOn s (b .rotations)) → (seated && not entering) ≡ isGathered w s b x
+  staying-one w q entering r = and-is seated (not entering) ∙ rw (e, r, q)
+
+-- ---- entrants, as a loop looks for one
+
+pub entrant-is : (s : Shard) (x : Id) (r : code.Rotation) (q : Rotation) → rotationOf r ≡ q → (eqb (r .shard .0) s && eqb (r .entrant .0) x) ≡ isEntrant s x q
+entrant-is s x r q e = and-is (eqb (r .shard .0) s) (eqb (r .entrant .0) x) ∙ rw (← e)
+
+module _ (s : Shard) (x : Id) (l : List Rotation) (i : ℕ) (h : i < length l) where
+  pub entrant-here : true ≡ isEntrant s x (getD l i noRotation) → has x (entrantsOn s (drop i l)) ≡ true
+  unfolding entrantsOn has any _or_
+  entrant-here e = let p = and-parts _ _ (sym e) in rw (drop-cons l i noRotation h, p .0) (or-left _ _ (p .1))
+
+  pub entrant-later : false ≡ isEntrant s x (getD l i noRotation) → has x (entrantsOn s (drop i l)) ≡ has x (entrantsOn s (drop (i + 1) l))
+  unfolding entrantsOn has any _or_ _and_
+  entrant-later e = rw (add-one i, drop-cons l i noRotation h) (go (isOn s (getD l i noRotation)) (eqb (getD l i noRotation .entrant) x) refl (sym e))
+    where
+      go : (c d : Bool) → eqb (getD l i noRotation .entrant) x ≡ d → (c and d) ≡ false → has x (cond c (getD l i noRotation .entrant ∷ entrantsOn s (drop (suc i) l)) (entrantsOn s (drop (suc i) l))) ≡ has x (entrantsOn s (drop (suc i) l))
+      go true d v u = rw (v, u)
+      go false d v u = refl
+
+pub entrant-none : (s : Shard) (x : Id) (l : List Rotation) (i : ℕ) → length l ≤ i → has x (entrantsOn s (drop i l)) ≡ false
+unfolding entrantsOn has any
+entrant-none s x l i h = rw (drop-of-length-le l {i = i} h)
 
 -- ---- the list
 

@@ -3,25 +3,30 @@ use Prim.Native.Nat.{ℕ, _≤_}
 use mathlib.Core.Path.{_≡_}
 use mathlib.Core.List.{List, [], _∷_}
 use mathlib.Core.Bool.{Bool, cond, not}
+use lib.Dec.{eqb}
 use lib.ListN.{length, drop}
 use Rattle.types.specs.Numbers.{Shard, Id}
 use Rattle.types.specs.Places.{isSeatedOn, isReady}
 use Rattle.types.specs.declared.Answer.{Answer}
 use Rattle.types.specs.declared.Answer.the-variants.{DrawMissing, DrawTooLarge}
-use Rattle.rules.specs.Lists.{_and_, keep}
-use Rattle.rules.specs.Board.{Board}
+use Rattle.rules.specs.Lists.{_and_, keep, has}
+use Rattle.rules.specs.Board.{Rotation, Board}
 use Rattle.rules.specs.Draws.{Drawn, drew, missing, tooLarge}
-use Rattle.rules.specs.Moves.{says, membersOf}
+use Rattle.rules.specs.Moves.{says, membersOf, isOn, entrantsOn}
 use Rattle.sampling.specs.declared.Reader.{Reader}
 use Rattle.gathering.specs.declared.Members.{Members}
-use Rattle.gathering.specs.declared.Members.the-variants.{Ready, Waiting, Seated}
+use Rattle.gathering.specs.declared.Members.the-variants.{Ready, Waiting, Staying}
 use Rattle.gathering.specs.declared.Mixed as code
 use Rattle.gathering.specs.declared.Mixed.the-variants.{Done, Refused}
+
+-- the entrant of a rotation on the shard
+abbrev pub isEntrant : Shard → Id → Rotation → Bool
+isEntrant s x r = isOn s r and eqb (r .entrant) x
 
 abbrev pub isGathered : Members → Shard → Board → Id → Bool
 isGathered Ready s b x = says (isSeatedOn s) b x and says isReady b x
 isGathered Waiting s b x = says (isSeatedOn s) b x and not (says isReady b x)
-isGathered Seated s b x = says (isSeatedOn s) b x
+isGathered Staying s b x = says (isSeatedOn s) b x and not (has x (entrantsOn s (b .rotations)))
 
 -- one id, if it is wanted
 abbrev pub taken : Members → Shard → Board → Id → List Id

@@ -4,6 +4,7 @@ use board::layout::MOST_COMMITTEES;
 use board::layout::MOST_MEMBERS;
 use sampling::Reader;
 use sampling::Shuffled;
+use shards::rotations;
 use types::Answer;
 use types::ShardId;
 use types::ValidatorId;
@@ -12,25 +13,52 @@ ghost use mathlib.Core.List.{_++_};
 ghost use mathlib.Core.Bool.{true};
 ghost use Prim.Native.Nat.{_+_, _<_, _≤_};
 ghost use lib.ListN.{length, getD, take, drop};
-ghost use Rattle.rules.specs.Lists.{keep, sort};
-ghost use Rattle.rules.specs.Board.{Board, mostCommittees, mostMembers};
+ghost use Rattle.rules.specs.Lists.{keep, has, sort};
+ghost use Rattle.rules.specs.Board.{Board, mostCommittees, mostMembers, mostRotations};
 ghost use Rattle.rules.specs.WellFormed.{wellFormed};
 ghost use Rattle.rules.specs.Draws.{shuffle};
+ghost use Rattle.rules.specs.Moves.{entrantsOn};
 ghost use Rattle.board.specs.Layout.{boardSize};
-ghost use Rattle.board.specs.Held.{Holds, noCommittee};
-ghost use Rattle.gathering.specs.Gathered.{isGathered, taken, gathered, TellsMixed};
+ghost use Rattle.board.specs.Held.{Holds, noCommittee, noRotation};
+ghost use Rattle.gathering.specs.Gathered.{isEntrant, isGathered, taken, gathered, TellsMixed};
 
-// Which of the members that are seated on the shard.
+// Which of the members that are seated on the shard; those who stay when its rotations are aborted are entrants of none.
 pub enum Members {
     Ready,
     Waiting,
-    Seated,
+    Staying,
 }
 
 // The reader moved on; or the answer that refuses a draw.
 pub enum Mixed {
     Done(Reader),
     Refused(Answer),
+}
+
+fn enters_at(board: &[u64], shard: ShardId, id: ValidatorId, i: usize) -> bool
+    requires { ⌜ (length (now board) ≡ boardSize) × (i < mostRotations) ⌝ }
+    ensures { λ r. ⌜ ((b : Board) → Holds (now (board .entry)) b → i < length (b .rotations) → r ≡ isEntrant (shard .0) (id .0) (getD (b .rotations) i noRotation)) ⌝ }
+{
+    let r = rotations::at(board, i);
+    let there = r.shard;
+    let entrant = r.entrant;
+    (there.0 == shard.0) & (entrant.0 == id.0)
+}
+
+// The machine is the entrant of a rotation on the shard.
+fn enters(board: &[u64], shard: ShardId, id: ValidatorId) -> bool
+    requires { ⌜ length (now board) ≡ boardSize ⌝ }
+    ensures { λ r. ⌜ ((b : Board) → Holds (now (board .entry)) b → r ≡ has (id .0) (entrantsOn (shard .0) (b .rotations))) ⌝ }
+{
+    let n = rotations::rows(board);
+    let mut i: usize = 0;
+    while i < n {
+        if enters_at(board, shard, id, i) {
+            return true;
+        }
+        i += 1;
+    }
+    false
 }
 
 fn is_gathered(board: &[u64], which: Members, shard: ShardId, id: ValidatorId) -> bool
@@ -42,7 +70,7 @@ fn is_gathered(board: &[u64], which: Members, shard: ShardId, id: ValidatorId) -
     match which {
         Members::Ready => seated & p.is_ready(),
         Members::Waiting => seated & !p.is_ready(),
-        Members::Seated => seated,
+        Members::Staying => seated & !enters(board, shard, id),
     }
 }
 

@@ -69,3 +69,24 @@ pub fn push_right(ws: &mut [u64], i: usize, id: ValidatorId)
     let e = a + HALF_SIZE;
     tables::push(&mut ws[a..e], MOST_HALF, id.0);
 }
+
+// All ids of the left half go.
+pub fn clear_left(ws: &mut [u64], i: usize)
+    requires { ⌜ (length (now ws) ≡ boardSize) × (i < mostReshapes) ⌝ }
+    ensures { λ _. ⌜ ((b : Board) → Holds (now (ws .entry)) b → i < length (b .reshapes) →
+        Holds (now (ws .exit)) (onReshapes (changeAt noReshape i (withLeft (λ l. []))) b)) ⌝ }
+{
+    let a = RESHAPES_AT + 1 + i * RESHAPE_WIDTH + LEFT_AT;
+    let e = a + HALF_SIZE;
+    tables::clear(&mut ws[a..e]);
+}
+
+pub fn clear_right(ws: &mut [u64], i: usize)
+    requires { ⌜ (length (now ws) ≡ boardSize) × (i < mostReshapes) ⌝ }
+    ensures { λ _. ⌜ ((b : Board) → Holds (now (ws .entry)) b → i < length (b .reshapes) →
+        Holds (now (ws .exit)) (onReshapes (changeAt noReshape i (withRight (λ l. []))) b)) ⌝ }
+{
+    let a = RESHAPES_AT + 1 + i * RESHAPE_WIDTH + RIGHT_AT;
+    let e = a + HALF_SIZE;
+    tables::clear(&mut ws[a..e]);
+}

@@ -232,11 +232,11 @@ gate-reads t lefts rights b =
     (λ e ds. rw (e, schedule.passGate)) (λ r e ds. rw (e, schedule.passGate))
     (λ r. cond-reads (schedule.splitGate t lefts rights r b) _ _ (drain-reads t r lefts rights b) (finished-reads 0 b))
 
-schedule-split-reads : (t : Shard) (b : Board) → ReadsTurn (λ ds. schedule.scheduleSplit t ds b)
+pub schedule-split-reads : (t : Shard) (b : Board) → ReadsTurn (λ ds. schedule.scheduleSplit t ds b)
 unfolding schedule.scheduleSplit schedule.halve
 schedule-split-reads t b = drawn-reads (shuffle _) _ (shuffle-reads _) (λ ids. gate-reads t _ _ _)
 
-schedule-merge-reads : (t : Shard) (b : Board) → ReadsTurn (λ ds. schedule.scheduleMerge t ds b)
+pub schedule-merge-reads : (t : Shard) (b : Board) → ReadsTurn (λ ds. schedule.scheduleMerge t ds b)
 unfolding schedule.scheduleMerge
 schedule-merge-reads t b =
     at-reads t b _ (λ r ds. cond (schedule.mergeGate r b) (schedule.drainOrSchedule t r [] [] ds b) (finished 0 ds b))

@@ -41,7 +41,7 @@ good-drainBy t b h = good-reshape t (withDrainBy (drainEnd b)) (λ q e f. Fit-dr
 
 -- ---- SCHEDULE MERGES
 
-merge-finishes : (t : Shard) (draws : List ℕ) (b : Board) → Good b → Finishes Good (scheduleMerge t draws b)
+pub merge-finishes : (t : Shard) (draws : List ℕ) (b : Board) → Good b → Finishes Good (scheduleMerge t draws b)
 unfolding scheduleMerge isEmpty _and_
 merge-finishes t draws b h =
     reshape-finishes Good t _ draws b h (λ r e.
@@ -62,8 +62,8 @@ splitAmong shards e = isKind split (e .val) or not (has (e .key) shards)
 abbrev Kinds : List Shard → Board → Type 0
 Kinds shards b = Rows mostReshapes (splitAmong shards) (b .reshapes)
 
-record Splits (shards : List Shard) (b : Board) : Type 0 where
-  good : Good b
+pub record Splits (shards : List Shard) (b : Board) : Type 0 where
+  pub good : Good b
   kinds : Kinds shards b
 
 split-at : {shards : List Shard} {b : Board} → Splits shards b → (t : Shard) (r : Reshape) → 1 ≤ occ t shards → at t (b .reshapes) ≡ some r → isKind split r ≡ true
@@ -74,7 +74,7 @@ split-at {shards} h t r o e = go (or-cases _ _ (h .kinds .each-good t r e))
     go (inl u) = u
     go (inr u) = absurd (let z : occ t shards < 1 = lt-of-no 1 (occ t shards) (sym (has-occ t shards) ∙ of-not _ u) in omega arith)
 
-all-splits : (b : Board) → Good b → Splits (unscheduled split b) b
+pub all-splits : (b : Board) → Good b → Splits (unscheduled split b) b
 unfolding unscheduled splitAmong
 all-splits b h = record { good = h; kinds = record { room = h .reshapes .room; each-good = λ t r e. go t r e (has t (unscheduled split b)) refl; rising = h .reshapes .rising } }
   where
@@ -145,7 +145,7 @@ module _ (shards : List Shard) where
       drain-finishes (Splits shards) t r _ _ draws b h (splits-drainBy t b h) (splits-scheduled t r l b o (fit-at (h .good) t r e .admitted) i h))
       (λ g. h))
 
-  split-finishes : (t : Shard) → 1 ≤ occ t shards → (draws : List ℕ) (b : Board) → Splits shards b → Finishes (Splits shards) (scheduleSplit t draws b)
+  pub split-finishes : (t : Shard) → 1 ≤ occ t shards → (draws : List ℕ) (b : Board) → Splits shards b → Finishes (Splits shards) (scheduleSplit t draws b)
   unfolding scheduleSplit halve
   split-finishes t o draws b h =
       let c = splits-abort t b h in

@@ -1,6 +1,6 @@
 use mathlib.Core.Path.{refl, _∙_}
 use Rattle.types.specs.Places.{isSeatedOn, isReady}
-use Rattle.gathering.proofs.Gathers.{ready-one, waiting-one, any-seated}
+use Rattle.gathering.proofs.Gathers.{ready-one, waiting-one, staying-one}
 use borrow.Author.Needs.{needs}
 use Rattle.gathering.proofs.is_gathered.Statement.{statement}
 use Rattle.gathering.proofs.is_gathered.Tie as tie
@@ -15,7 +15,7 @@ returns-2 c = λ b h ok.
 
 returns-3 : tie.Need-returns-3
 returns-3 c = λ b h ok.
-    any-seated _ b _ _ (c .before .before .is-seated-on .ensures ∙ c .before .before .before .place-of .ensures b h ok (isSeatedOn (c .before .before .before .before .before .args .shard .0)) refl) _ (c .enum-told3 .given .1)
+    staying-one _ b _ _ (c .before .before .before .is-seated-on .ensures ∙ c .before .before .before .before .place-of .ensures b h ok (isSeatedOn (c .before .before .before .before .before .before .args .shard .0)) refl) _ (c .before .enum-told3 .given .1) _ (c .enters .ensures b h)
 
 pub is-gathered-spec : {M : Type 1} → statement M
 is-gathered-spec =
@@ -28,6 +28,7 @@ is-gathered-spec =
     (λ c. search needs)
     (λ c κs. search needs)
     (λ c. search needs)
+    (λ c κs. search needs)
     returns
     returns-2
     returns-3)

@@ -1,0 +1,2 @@
+pub mod Drains
+pub mod Schedules

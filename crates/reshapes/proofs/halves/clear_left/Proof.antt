@@ -1,0 +1,33 @@
+use mathlib.Core.List.{[]}
+use native.Mathlib.Omega.{arith}
+use lib.ListN.{getD}
+use Rattle.rules.specs.Board.{mostHalf}
+use Rattle.rules.specs.Snapshot.{idWords}
+use Rattle.tables.proofs.Tables.{cleared}
+use Rattle.board.specs.Held.{noReshape}
+use Rattle.reshapes.proofs.OfReshapes.{left-lent, left-back}
+use borrow.Author.Needs.{needs}
+use Rattle.reshapes.proofs.halves.clear_left.Statement.{statement}
+use Rattle.reshapes.proofs.halves.clear_left.Tie as tie
+
+returns : tie.Need-returns
+returns c = λ b h l.
+    let i = c .before .before .before .before .before .args .i in
+    left-back _ b h i l (λ l. []) _ (cleared idWords 1 mostHalf (getD (b .reshapes) i noReshape .val .left) _ _ (left-lent _ b h i l) (c .before .before .clear .ensures)) (omega arith)
+
+pub clear-left-spec : {M : Type 1} → statement M
+clear-left-spec =
+    tie.close
+    (tie.spec
+    (λ c. search needs)
+    (λ c. search needs)
+    (λ c. search needs)
+    (λ c. search needs)
+    (λ c. search needs)
+    (λ c. search needs)
+    (λ c. search needs)
+    (λ c. search needs)
+    (λ c. search needs)
+    (λ c κs. search needs)
+    (λ c. search needs)
+    returns)

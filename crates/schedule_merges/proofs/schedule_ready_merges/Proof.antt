@@ -1,0 +1,27 @@
+use mathlib.Core.Path.{sym, _∙_}
+use mathlib.Core.Bool.{false≢true}
+use Rattle.steps.proofs.Public.{held-wide, step-answers, step-refuses}
+use borrow.Author.Needs.{needs}
+use Rattle.schedule_merges.proofs.schedule_ready_merges.Statement.{statement}
+use Rattle.schedule_merges.proofs.schedule_ready_merges.Tie as tie
+
+schedule-ready-merges-held-requires : tie.Need-schedule-ready-merges-held-requires
+schedule-ready-merges-held-requires c κs = held-wide _ (c .before .before .well-formed .ensures .yes (c .before .if1 .taken))
+
+returns : tie.Need-returns
+returns c = step-answers _ _ _ _ (c .before .before .before .before .before .well-formed .ensures .yes (c .before .before .before .before .if1 .taken)) (c .before .before .schedule-ready-merges-held .ensures)
+
+returns-2 : tie.Need-returns-2
+returns-2 c = step-refuses _ _ _ (λ w. false≢true (sym (c .before .if1 .left) ∙ c .before .before .well-formed .ensures .held w)) (c .refusal .ensures)
+
+pub schedule-ready-merges-spec : {M : Type 1} → statement M
+schedule-ready-merges-spec =
+    tie.close
+    (tie.spec
+    (λ c κs. search needs)
+    schedule-ready-merges-held-requires
+    (λ c. search needs)
+    returns
+    (λ c κs. search needs)
+    (λ c. search needs)
+    returns-2)

@@ -1,0 +1,147 @@
+-- What an abort of a shard's rotations leaves, said on the board before it.
+use Prim.Native.Nat.{_≤_}
+use mathlib.Core.Path.{_≡_, refl, ap, sym, _∙_}
+use mathlib.Core.Logic.{_≢_}
+use mathlib.Core.List.{List, [], _∷_}
+use mathlib.Core.Option.{Option, none, some, Option·map}
+use mathlib.Core.Bool.{Bool, true, false, cond, not, true≢false}
+use native.Mathlib.Omega.{arith}
+use lib.Dec.{eqb}
+use Rattle.types.specs.Numbers.{Shard, Id}
+use Rattle.types.specs.Places.{isSeatedOn}
+use Rattle.types.specs.declared.Place.{Place}
+use Rattle.rules.specs.Lists.{_and_, _or_, any, count, keep, has, strike, sort}
+use Rattle.rules.specs.Table.{Table, at}
+use Rattle.rules.specs.Board.{Settings, Boundary, Reshape, Board}
+use Rattle.rules.specs.Moves.{says, membersOf, place, quit, takeOff, forAll, pooledFrom, entrantsOn, abortRotations}
+use Rattle.rules.specs.Schedule.{seatedThere}
+use Rattle.rules.proofs.Counts.{Alike, same, apart, alike, eqb-same, eqb-apart, occ, hit-same}
+use Rattle.rules.proofs.KeptTables.{at-update, at-other, holds-same}
+use Rattle.rules.proofs.Turns.{forAll-keeps}
+use Rattle.drains.proofs.Drains.{and-end}
+
+-- ---- lists
+
+keep-keep : (f g h : Id → Bool) → ((y : Id) → h y ≡ (g y and f y)) → (l : List Id) → keep f (keep g l) ≡ keep h l
+unfolding keep _and_
+keep-keep f g h e [] = refl
+keep-keep f g h e (x ∷ l) = rw (e x) (go (g x) (f x) refl (keep-keep f g h e l))
+  where
+    go : (c d : Bool) → f x ≡ d → keep f (keep g l) ≡ keep h l → keep f (cond c (x ∷ keep g l) (keep g l)) ≡ cond (c and d) (x ∷ keep h l) (keep h l)
+    go true true u rest = rw u (ap (λ (m : List Id). x ∷ m) rest)
+    go true false u rest = rw u rest
+    go false d u rest = rest
+
+keep-all : (l : List Id) → keep (λ y. true) l ≡ l
+unfolding keep
+keep-all [] = refl
+keep-all (x ∷ l) = ap (λ (m : List Id). x ∷ m) (keep-all l)
+
+pub count-same : (f g : Id → Bool) (l : List Id) → ((y : Id) → 1 ≤ occ y l → f y ≡ g y) → count f l ≡ count g l
+unfolding count occ
+count-same f g [] e = refl
+count-same f g (x ∷ l) e = rw (e x (omega (arith, hit-same x)), count-same f g l (λ y o. e y (omega arith)))
+
+-- x is none of a list that begins with y
+none-head : (x y : Id) (l : List Id) → has x (y ∷ l) ≡ false → (x ≢ y) × (has x l ≡ false)
+unfolding has any _or_
+none-head x y l e = go (eqb y x) refl e
+  where
+    go : (c : Bool) → eqb y x ≡ c → (c or has x l) ≡ false → (x ≢ y) × (has x l ≡ false)
+    go true u v = absurd (true≢false v)
+    go false u v = (λ p. true≢false (sym (eqb-same y) ∙ rw p at u), v)
+
+-- ---- one entrant leaves
+
+module _ (s : Shard) where
+  abbrev leaves : Id → Board → Board
+  leaves = takeOff s (pooledFrom (isSeatedOn s))
+
+  members-left : (x : Id) (b : Board) → membersOf s (leaves x b) ≡ strike x (membersOf s b)
+  unfolding membersOf takeOff quit place strike keep
+  members-left x b = ap (λ (o : Option (List Id)). elim o [ none ↦ [] | some members ↦ members ]) (at-update s (strike x) (b .committees)) ∙ go (at s (b .committees))
+    where
+      go : (o : Option (List Id)) → elim (Option·map (strike x) o) [ none ↦ [] | some members ↦ members ] ≡ strike x (elim o [ none ↦ [] | some members ↦ members ])
+      go none = refl
+      go (some l) = refl
+
+  says-left : (f : Place → Bool) (x y : Id) (b : Board) → y ≢ x → says f (leaves x b) y ≡ says f b y
+  unfolding takeOff quit place
+  says-left f x y b n = holds-same y f _ _ (at-other y x (pooledFrom (isSeatedOn s)) (b .machines) n)
+
+  -- ---- all of them
+
+  all-members : (l : List Id) (b : Board) → membersOf s (forAll leaves l b) ≡ keep (λ y. not (has y l)) (membersOf s b)
+  unfolding forAll has any strike _or_ _and_
+  all-members [] b = sym (keep-all (membersOf s b))
+  all-members (x ∷ l) b =
+      all-members l (leaves x b) ∙ ap (keep (λ y. not (has y l))) (members-left x b)
+      ∙ keep-keep (λ y. not (has y l)) (λ y. not (eqb y x)) (λ y. not (has y (x ∷ l))) (λ y. go y (alike y x)) (membersOf s b)
+    where
+      go : (y : Id) → Alike y x → not (has y (x ∷ l)) ≡ (not (eqb y x) and not (has y l))
+      go y (same p q) = rw (p, eqb-same x)
+      go y (apart p q) = rw (q, eqb-apart x y (λ e. p (sym e)))
+
+  all-says : (f : Place → Bool) (l : List Id) (b : Board) (y : Id) → has y l ≡ false → says f (forAll leaves l b) y ≡ says f b y
+  unfolding forAll
+  all-says f [] b y n = refl
+  all-says f (x ∷ l) b y n = let h = none-head y x l n in all-says f l (leaves x b) y (h .1) ∙ says-left f x y b (h .0)
+
+-- ---- the abort
+
+module _ (t : Shard) (b : Board) where
+  abbrev pub entrants : List Id
+  entrants = entrantsOn t (b .rotations)
+
+  -- the members that stay, in their order
+  abbrev pub stayers : List Id
+  stayers = keep (λ y. says (isSeatedOn t) b y and not (has y entrants)) (membersOf t b)
+
+  pub stayer-says : (f : Place → Bool) (y : Id) → has y entrants ≡ false → says f (abortRotations t b) y ≡ says f b y
+  unfolding abortRotations
+  stayer-says f y n = all-says t f entrants b y n
+
+  pub seated-stay : seatedThere t (abortRotations t b) ≡ sort stayers
+  unfolding seatedThere abortRotations membersOf _and_
+  seated-stay =
+      ap (λ (l : List Id). sort (keep (says (isSeatedOn t) (abortRotations t b)) l)) (all-members t entrants b)
+      ∙ ap sort (keep-keep (says (isSeatedOn t) (abortRotations t b)) (λ y. not (has y entrants)) _ (λ y. go y (has y entrants) refl) (membersOf t b))
+    where
+      never : (c : Bool) → (c and false) ≡ false
+      never true = refl
+      never false = refl
+
+      go : (y : Id) (c : Bool) → has y entrants ≡ c → (says (isSeatedOn t) b y and not (has y entrants)) ≡ (not (has y entrants) and says (isSeatedOn t) (abortRotations t b) y)
+      go y true u = rw u (never (says (isSeatedOn t) b y))
+      go y false u = rw (u, stayer-says (isSeatedOn t) y u) (and-end (says (isSeatedOn t) b y))
+
+  -- the rest of the board is as it was
+  abbrev made : Settings → Table Boundary → Table Reshape → Board
+  made settings bounds reshapes = record {
+    settings = settings;
+    machines = abortRotations t b .machines;
+    committees = abortRotations t b .committees;
+    bounds = bounds;
+    rotations = abortRotations t b .rotations;
+    reshapes = reshapes;
+  }
+
+  abbrev pub Aborted : Board
+  Aborted = made (b .settings) (b .bounds) (b .reshapes)
+
+  record Rest (c : Board) : Type 0 where
+    settings : c .settings ≡ b .settings
+    bounds : c .bounds ≡ b .bounds
+    reshapes : c .reshapes ≡ b .reshapes
+
+  abort-keeps : Rest (abortRotations t b)
+  unfolding abortRotations takeOff quit place
+  abort-keeps =
+      let p = forAll-keeps Rest _ (λ x c g. record { settings = g .settings; bounds = g .bounds; reshapes = g .reshapes }) entrants b (record { settings = refl; bounds = refl; reshapes = refl }) in
+      record { settings = p .settings; bounds = p .bounds; reshapes = p .reshapes }
+
+  pub abort-rest : abortRotations t b ≡ Aborted
+  abort-rest =
+      ap (λ s. made s (abortRotations t b .bounds) (abortRotations t b .reshapes)) (abort-keeps .settings)
+      ∙ ap (λ v. made (b .settings) v (abortRotations t b .reshapes)) (abort-keeps .bounds)
+      ∙ ap (made (b .settings) (b .bounds)) (abort-keeps .reshapes)
