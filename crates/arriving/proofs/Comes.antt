@@ -1,0 +1,53 @@
+-- One machine comes to a shard: what is asked before, and its move, as the code has it at the machine's row.
+use Prim.Native.Nat.{ℕ, _+_, _≤_, _<_}
+use mathlib.Core.Path.{_≡_, refl, ap, sym, _∙_}
+use mathlib.Core.List.{List, [], _∷_}
+use mathlib.Core.Option.{Option, none, some}
+use mathlib.Core.Bool.{Bool, true, false, not}
+use native.Mathlib.Omega.{arith}
+use borrow.Author.Tests.{lt-leb, lt-ltb}
+use lib.Dec.{leb, ltb}
+use lib.ListN.{length, getD, set}
+use Rattle.types.specs.Numbers.{Shard, Id}
+use Rattle.types.specs.declared.Place.{Place}
+use Rattle.rules.specs.Lists.{_and_, _or_, every, has}
+use Rattle.rules.specs.Table.{entry, isSome, at, stands}
+use Rattle.rules.specs.Board.{Board, mostCommittees, mostMembers, onMachines}
+use Rattle.rules.specs.WellFormed.{wellFormed}
+use Rattle.rules.specs.Moves.{membersOf, place, join, putOn, mayJoin}
+use Rattle.rules.proofs.Counts.{hit-same, occ, occ-single}
+use Rattle.rules.proofs.Tests.{and-joins, or-left, or-right, of-le, has-occ, not-of}
+use Rattle.rules.proofs.KeptBoard.{Good}
+use Rattle.rules.proofs.KeptMoves.{Joins}
+use Rattle.board.specs.Held.{Holds, noMachine}
+use Rattle.board.proofs.Fitting.{held-as}
+use Rattle.board.proofs.Keyed.{machines-rise}
+use Rattle.board.proofs.Moves.{place-at}
+use Rattle.recasting.proofs.Sizes.{put-length, lack-none}
+
+-- what 11 asks, of one that is known to have room
+pub joins-may : {b : Board} {c : Shard} {x : Id} → Good b → Joins c (x ∷ []) b → mayJoin c (x ∷ []) b ≡ true
+unfolding mayJoin every _and_
+joins-may {b} {c} {x} h j = and-joins _ _ (stood (at c (b .committees)) refl) (and-joins _ _ (and-joins _ _ (not-of _ absent) refl) (of-le _ _ (j .few)))
+  where
+    absent : has x (membersOf c b) ≡ false
+    absent = has-occ x (membersOf c b) ∙ lt-leb 1 (occ x (membersOf c b)) (omega (arith, j .once x, occ-single x x, hit-same x))
+
+    stood : (o : Option (List Id)) → at c (b .committees) ≡ o → (stands c (b .committees) or ltb (length (b .committees)) mostCommittees) ≡ true
+    unfolding stands isSome
+    stood none q = or-right _ _ (lt-ltb _ _ (omega (arith, j .opens [], put-length c (b .committees) (h .committees .rising) [], lack-none c (b .committees) q)))
+    stood (some l) q = or-left _ _ (ap isSome q)
+
+-- the place that the code computed is the move's
+pub put-as : (b : Board) → wellFormed b ≡ true → (s : Shard) (x : Id) (move : Place → Place) (p : Place) (i : ℕ) → i < length (b .machines) → getD (b .machines) i noMachine .key ≡ x
+    → p ≡ move (getD (b .machines) i noMachine .val) → (after : List ℕ) → Holds after (putOn s (λ q. p) (getD (b .machines) i noMachine .key) b) → Holds after (putOn s move x b)
+unfolding putOn
+put-as b ok s x move p i l e v after h =
+    let r = machines-rise b ok in
+    let same : place x (λ q. p) b ≡ place x move b =
+    place-at b x (λ q. p) i r l e ∙ ap (λ (n : Place). onMachines (λ t. set t i (entry (getD t i noMachine .key) n)) b) v ∙ sym (place-at b x move i r l e) in
+    held-as after _ _ (ap (join s x) same) (rw e at h)
+
+pub put-held : (after : List ℕ) (b : Board) (s x id : ℕ) (p : Place) → id ≡ x → Holds after (join s id (place x (λ q. p) b)) → Holds after (putOn s (λ q. p) x b)
+unfolding putOn
+put-held after b s x id p e h = rw e at h

@@ -1,0 +1,2 @@
+pub mod Comes
+pub mod Lists

@@ -1,0 +1,187 @@
+-- A child's committee on its way: who has come, and who is still to come. The reshape's row is read all along, and goes last.
+use Prim.Native.Nat.{ℕ, _+_, _-_, _≤_, _<_}
+use mathlib.Core.Path.{_≡_, refl, ap, sym, _∙_}
+use mathlib.Core.Logic.{_≢_}
+use mathlib.Core.List.{List, [], _∷_, _++_}
+use mathlib.Core.Option.{Option, none, some}
+use mathlib.Core.Bool.{Bool, true, false, cond}
+use native.Mathlib.Omega.{arith}
+use native.Mathlib.Numerals.{add-one}
+use borrow.Author.Tests.{ltb-true, ltb-false}
+use lib.Dec.{eqb, ltb}
+use lib.ListN.{length, getD, drop, drop-of-length-le, length-append}
+use lib.Seq.{drop-cons}
+use Rattle.types.specs.Numbers.{Shard, Id}
+use Rattle.types.specs.Places.{isSeatedOn, isObserving, movedTo}
+use Rattle.types.specs.declared.Place.{Place}
+use Rattle.rules.specs.Table.{Table, at, keysWhere}
+use Rattle.rules.specs.Board.{Seat, Reshape, Board, mostMembers, mostSeats, mostHalf, onReshapes, epochOf}
+use Rattle.rules.specs.WellFormed.{goodSeat, isShard, wellFormed}
+use Rattle.rules.specs.Moves.{membersOf, place, join, putOn, forAll}
+use Rattle.rules.specs.Cut.{settle, seatedBy, cohortFor, settleChild}
+use Rattle.rules.proofs.Tests.{by-cases}
+use Rattle.rules.proofs.Turns.{forAll-keeps}
+use Rattle.rules.proofs.KeptLists.{Ids}
+use Rattle.rules.proofs.KeptTables.{Rows, length-keysWhere}
+use Rattle.rules.proofs.KeptBoard.{Good, good-of, of-good}
+use Rattle.rules.proofs.KeptMoves.{forAll-counts}
+use Rattle.rules.proofs.KeptCut.{Settling, settling, may-arrive, settle-keeps}
+use Rattle.board.specs.Held.{Holds, noReshape, noSeat}
+use Rattle.board.proofs.Fitting.{held-as}
+use Rattle.pool.proofs.Pools.{keys-none, keys-here, keys-past}
+use Rattle.arriving.specs.Coming.{reshapeIn, MayCome}
+use Rattle.arriving.proofs.Comes.{joins-may}
+use Rattle.arriving.proofs.Lists.{forAll-append}
+use Rattle.cut_splits.specs.Settled.{halfOf, seatFor, turnOf}
+
+-- ---- in which order
+
+module _ (c : Shard) (half : List Id) (seats : Table Seat) (k : ℕ) where
+  -- those still to come before turn k
+  abbrev pub rest : List Id
+  rest = drop k half ++ cohortFor c (drop (k - length half) seats)
+
+module _ (c : Shard) (half : List Id) (seats : Table Seat) where
+  rest-begins : rest c half seats 0 ≡ half ++ cohortFor c seats
+  rest-begins = let z : 0 - length half ≡ 0 = omega arith in rw z
+
+  rest-ends : (k : ℕ) → length half + length seats ≤ k → rest c half seats k ≡ []
+  unfolding cohortFor
+  rest-ends k l = rw (drop-of-length-le half {i = k} (omega arith)) (keys-none (λ q. eqb (q .child) c) seats (k - length half) (omega arith))
+
+  rest-goes-on : (k : ℕ) → k < length half + length seats → rest c half seats k ≡ turnOf c half seats k ++ rest c half seats (k + 1)
+  unfolding cohortFor
+  rest-goes-on k l = go (ltb k (length half)) refl
+    where
+      seated : length half ≤ k → (q : Bool) → eqb (getD seats (k - length half) noSeat .val .child) c ≡ q
+          → cohortFor c (drop (k - length half) seats) ≡ cond q (getD seats (k - length half) noSeat .key ∷ []) [] ++ cohortFor c (drop (k - length half + 1) seats)
+      seated m true e = keys-here (λ q. eqb (q .child) c) seats (k - length half) noSeat (omega arith) e
+      seated m false e = keys-past (λ q. eqb (q .child) c) seats (k - length half) noSeat (omega arith) e
+
+      go : (q : Bool) → ltb k (length half) ≡ q → rest c half seats k ≡ cond q (getD half k 0 ∷ []) (seatFor c (getD seats (k - length half) noSeat)) ++ rest c half seats (k + 1)
+      go true u =
+          let m = ltb-true k (length half) u in
+          let y : k - length half ≡ 0 = omega arith in
+          let z : k + 1 - length half ≡ 0 = omega arith in
+          rw (y, z, add-one k, drop-cons half k 0 m)
+      go false u =
+          let m : length half ≤ k = ltb-false k (length half) u in
+          let z : k + 1 - length half ≡ k - length half + 1 = omega arith in
+          rw (drop-of-length-le half {i = k} m, drop-of-length-le half {i = k + 1} (omega arith), z) (seated m _ refl)
+
+-- ---- what settling leaves alone
+
+module _ (t c : Shard) (seats : Table Seat) where
+  settle-reshapes : (x : Id) (b : Board) → settle t c seats x b .reshapes ≡ b .reshapes
+  unfolding settle putOn join place
+  settle-reshapes x b = go (at x (b .machines))
+    where
+      look : (p : Place) (o : Option Seat) → elim o [ none ↦ b | some q ↦ cond (isObserving p) (putOn c (seatedBy c q (epochOf b)) x b) b ] .reshapes ≡ b .reshapes
+      look p none = refl
+      look p (some q) = by-cases (λ (d : Board). d .reshapes ≡ b .reshapes) (isObserving p) _ _ (λ e. refl) (λ e. refl)
+
+      go : (o : Option Place) → elim o [
+        | none ↦ b
+        | some p ↦
+            cond (isSeatedOn t p) (putOn c (movedTo c) x b)
+            (elim (at x seats) [ none ↦ b | some q ↦ cond (isObserving p) (putOn c (seatedBy c q (epochOf b)) x b) b ])
+      ] .reshapes ≡ b .reshapes
+      go none = refl
+      go (some p) = by-cases (λ (d : Board). d .reshapes ≡ b .reshapes) (isSeatedOn t p) _ _ (λ e. refl) (λ e. look p (at x seats))
+
+  module _ (f : Table Reshape → Table Reshape) where
+    put-elsewhere : (move : Place → Place) (x : Id) (b : Board) → putOn c move x (onReshapes f b) ≡ onReshapes f (putOn c move x b)
+    unfolding putOn join place membersOf
+    put-elsewhere move x b = refl
+
+    settle-elsewhere : (x : Id) (b : Board) → settle t c seats x (onReshapes f b) ≡ onReshapes f (settle t c seats x b)
+    unfolding settle
+    settle-elsewhere x b = go (at x (b .machines))
+      where
+        one : (q : Bool) (move : Place → Place) (u v : Board) → u ≡ onReshapes f v → cond q (putOn c move x (onReshapes f b)) u ≡ onReshapes f (cond q (putOn c move x b) v)
+        one true move u v e = put-elsewhere move x b
+        one false move u v e = e
+
+        look : (p : Place) (o : Option Seat) → elim o [ none ↦ onReshapes f b | some q ↦ cond (isObserving p) (putOn c (seatedBy c q (epochOf b)) x (onReshapes f b)) (onReshapes f b) ]
+            ≡ onReshapes f (elim o [ none ↦ b | some q ↦ cond (isObserving p) (putOn c (seatedBy c q (epochOf b)) x b) b ])
+        look p none = refl
+        look p (some q) = one (isObserving p) (seatedBy c q (epochOf b)) (onReshapes f b) b refl
+
+        go : (o : Option Place) → elim o [
+          | none ↦ onReshapes f b
+          | some p ↦
+              cond (isSeatedOn t p) (putOn c (movedTo c) x (onReshapes f b))
+              (elim (at x seats) [ none ↦ onReshapes f b | some q ↦ cond (isObserving p) (putOn c (seatedBy c q (epochOf b)) x (onReshapes f b)) (onReshapes f b) ])
+        ] ≡ onReshapes f (elim o [
+          | none ↦ b
+          | some p ↦
+              cond (isSeatedOn t p) (putOn c (movedTo c) x b)
+              (elim (at x seats) [ none ↦ b | some q ↦ cond (isObserving p) (putOn c (seatedBy c q (epochOf b)) x b) b ])
+        ])
+        go none = refl
+        go (some p) = one (isSeatedOn t p) (movedTo c) _ _ (look p (at x seats))
+
+    all-elsewhere : (l : List Id) (b : Board) → forAll (settle t c seats) l (onReshapes f b) ≡ onReshapes f (forAll (settle t c seats) l b)
+    unfolding forAll
+    all-elsewhere [] b = refl
+    all-elsewhere (x ∷ l) b = ap (forAll (settle t c seats) l) (settle-elsewhere x b) ∙ all-elsewhere l (settle t c seats x b)
+
+    -- the order does not matter: the row may go before or after
+    pub child-elsewhere : (half : List Id) (b : Board) → settleChild t c half seats (onReshapes f b) ≡ onReshapes f (settleChild t c half seats b)
+    unfolding settleChild
+    child-elsewhere half b = all-elsewhere _ b
+
+  pub child-reshapes : (half : List Id) (b : Board) → settleChild t c half seats b .reshapes ≡ b .reshapes
+  unfolding settleChild
+  child-reshapes half b = forAll-keeps (λ (d : Board). d .reshapes ≡ b .reshapes) (settle t c seats) (λ x d e. settle-reshapes x d ∙ e) (half ++ cohortFor c seats) b refl
+
+-- ---- k turns are done
+
+pub record Filled (t c : Shard) (right : Bool) (i : ℕ) (b : Board) (k : ℕ) (ws : List ℕ) : Type 0 where
+  pub board : Board
+  pub held : Holds ws board
+  pub way : Settling b c (rest c (halfOf right (reshapeIn i b)) (reshapeIn i b .seats) k) board
+  pub same : board .reshapes ≡ b .reshapes
+  pub whole : forAll (settle t c (reshapeIn i b .seats)) (rest c (halfOf right (reshapeIn i b)) (reshapeIn i b .seats) k) board
+      ≡ settleChild t c (halfOf right (reshapeIn i b)) (reshapeIn i b .seats) b
+
+module _ (t c : Shard) (right : Bool) (i : ℕ) (b : Board) where
+  abbrev half : List Id
+  half = halfOf right (reshapeIn i b)
+
+  abbrev seats : Table Seat
+  seats = reshapeIn i b .seats
+
+  pub none-came : (ws : List ℕ) → Holds ws b → Good b → isShard c ≡ true → at c (b .committees) ≡ some [] → length half ≤ mostHalf → length seats ≤ mostSeats → Filled t c right i b 0 ws
+  unfolding settleChild cohortFor
+  none-came ws h g ok e m n =
+      let all : length (half ++ cohortFor c seats) ≤ mostMembers = rw length-append (omega (arith, length-keysWhere (λ q. eqb (q .child) c) seats)) in
+      record {
+        board = b;
+        held = h;
+        way = rw (rest-begins c half seats) (settling c (half ++ cohortFor c seats) g ok e all);
+        same = refl;
+        whole = ap (λ l. forAll (settle t c seats) l b) (rest-begins c half seats);
+      }
+
+  module _ (k : ℕ) (ws : List ℕ) (u : Filled t c right i b k ws) where
+    module _ (l : k < length half + length seats) where
+      coming : Settling b c (turnOf c half seats k ++ rest c half seats (k + 1)) (u .board)
+      coming = rw (rest-goes-on c half seats k l) at (u .way)
+
+      pub may-come : (x : Id) → turnOf c half seats k ≡ x ∷ [] → MayCome c x (u .board)
+      may-come x e p a n = joins-may (u .way .good) (may-arrive x (rest c half seats (k + 1)) p a n (rw e at coming))
+
+      pub one-came : c ≢ t → (after : List ℕ) → Holds after (forAll (settle t c seats) (turnOf c half seats k) (u .board)) → Filled t c right i b (k + 1) after
+      one-came n after h = record {
+        board = forAll (settle t c seats) (turnOf c half seats k) (u .board);
+        held = h;
+        way = forAll-counts (Settling b c) (settle t c seats) (settle-keeps b t c seats n) (turnOf c half seats k) (rest c half seats (k + 1)) (u .board) coming;
+        same = forAll-keeps (λ (d : Board). d .reshapes ≡ b .reshapes) (settle t c seats) (λ x d e. settle-reshapes t c seats x d ∙ e) (turnOf c half seats k) (u .board) (u .same);
+        whole = sym (forAll-append (settle t c seats) (turnOf c half seats k) (rest c half seats (k + 1)) (u .board))
+            ∙ ap (λ l. forAll (settle t c seats) l (u .board)) (sym (rest-goes-on c half seats k l)) ∙ u .whole;
+      }
+
+    pub all-came : length half + length seats ≤ k → Holds ws (settleChild t c half seats b)
+    unfolding forAll
+    all-came l = held-as ws _ _ (ap (λ l. forAll (settle t c seats) l (u .board)) (sym (rest-ends c half seats k l)) ∙ u .whole) (u .held)
