@@ -17,25 +17,26 @@ use Rattle.rules.specs.WellFormed.{wellFormed}
 use Rattle.rules.specs.Moves.{membersOf, place, join, putOn, mayJoin}
 use Rattle.rules.proofs.Counts.{hit-same, occ, occ-single}
 use Rattle.rules.proofs.Tests.{and-joins, or-left, or-right, of-le, has-occ, not-of}
-use Rattle.rules.proofs.KeptBoard.{Good}
+use Rattle.rules.proofs.KeptBoard.{Fit, Good, good-of, fit-at}
 use Rattle.rules.proofs.KeptMoves.{Joins}
-use Rattle.board.specs.Held.{Holds, noMachine}
+use Rattle.tables.proofs.Keys.{at-is}
+use Rattle.board.specs.Held.{Holds, noMachine, noReshape}
 use Rattle.board.proofs.Fitting.{held-as}
-use Rattle.board.proofs.Keyed.{machines-rise}
+use Rattle.board.proofs.Keyed.{machines-rise, reshapes-rise}
 use Rattle.board.proofs.Moves.{place-at}
 use Rattle.recasting.proofs.Sizes.{put-length, lack-none}
+use Rattle.arriving.specs.Coming.{reshapeIn}
 
 -- what 11 asks, of one that is known to have room
 pub joins-may : {b : Board} {c : Shard} {x : Id} → Good b → Joins c (x ∷ []) b → mayJoin c (x ∷ []) b ≡ true
-unfolding mayJoin every _and_
+unfolding mayJoin every _and_ stands isSome
 joins-may {b} {c} {x} h j = and-joins _ _ (stood (at c (b .committees)) refl) (and-joins _ _ (and-joins _ _ (not-of _ absent) refl) (of-le _ _ (j .few)))
   where
     absent : has x (membersOf c b) ≡ false
     absent = has-occ x (membersOf c b) ∙ lt-leb 1 (occ x (membersOf c b)) (omega (arith, j .once x, occ-single x x, hit-same x))
 
     stood : (o : Option (List Id)) → at c (b .committees) ≡ o → (stands c (b .committees) or ltb (length (b .committees)) mostCommittees) ≡ true
-    unfolding stands isSome
-    stood none q = or-right _ _ (lt-ltb _ _ (omega (arith, j .opens [], put-length c (b .committees) (h .committees .rising) [], lack-none c (b .committees) q)))
+    stood none q = or-right _ _ (lt-ltb (length (b .committees)) mostCommittees (omega (arith, j .opens [], put-length c (b .committees) (h .committees .rising) [], lack-none c (b .committees) q)))
     stood (some l) q = or-left _ _ (ap isSome q)
 
 -- the place that the code computed is the move's
@@ -51,3 +52,7 @@ put-as b ok s x move p i l e v after h =
 pub put-held : (after : List ℕ) (b : Board) (s x id : ℕ) (p : Place) → id ≡ x → Holds after (join s id (place x (λ q. p) b)) → Holds after (putOn s (λ q. p) x b)
 unfolding putOn
 put-held after b s x id p e h = rw e at h
+
+-- what is known of the reshape at a row
+pub row-fit : (b : Board) → wellFormed b ≡ true → (i : ℕ) → i < length (b .reshapes) → Fit (getD (b .reshapes) i noReshape .key) (reshapeIn i b)
+row-fit b ok i l = fit-at (good-of b ok) _ _ (at-is (b .reshapes) (reshapes-rise b ok) _ i noReshape l refl)

@@ -1,10 +1,17 @@
 -- What a loop asks of each of a list, and does for each.
-use mathlib.Core.Path.{_≡_, refl, ap, _∙_}
+use Prim.Native.Nat.{ℕ, _≤_, _<_}
+use mathlib.Core.Path.{_≡_, refl, ap, sym, _∙_}
 use mathlib.Core.List.{List, [], _∷_, _++_}
 use mathlib.Core.Bool.{Bool, true, false}
 use Rattle.rules.specs.Lists.{_and_, every}
-use Rattle.rules.specs.Board.{Board}
+use Rattle.rules.specs.Table.{stands}
+use Rattle.rules.specs.Board.{Board, mostMachines}
+use Rattle.rules.specs.WellFormed.{wellFormed}
 use Rattle.rules.specs.Moves.{forAll}
+use Rattle.board.specs.Held.{noMachine}
+use Rattle.board.proofs.Keyed.{machines-rise}
+use Rattle.rows.specs.Found.{Found}
+use Rattle.recasting.proofs.Sizes.{found-stands, missing-stands}
 
 module _ {A : Type 0} (f : A → Bool) (l : List A) where
   pub every-ended : l ≡ [] → every f l ≡ true
@@ -19,6 +26,21 @@ module _ {A : Type 0} (f : A → Bool) (l : List A) where
     pub every-fails : f x ≡ false → every f l ≡ false
     unfolding every _and_
     every-fails n = ap (every f) e ∙ rw n
+
+-- ---- the records of a list's machines: one is asked after another
+
+abbrev pub known : Board → ℕ → Bool
+known b x = stands x (b .machines)
+
+module _ (b : Board) (ok : wellFormed b ≡ true) (all l m : List ℕ) (x y : ℕ) (e : l ≡ x ∷ m) (i : y ≡ x) (row : ℕ) (f : Found mostMachines y noMachine (b .machines) row)
+    (s : every (known b) all ≡ every (known b) l) where
+  pub one-unknown : mostMachines ≤ row → false ≡ every (known b) all
+  one-unknown h = sym (s ∙ every-fails (known b) l x m e (rw i at (missing-stands f h)))
+
+  pub one-known : row < mostMachines → every (known b) all ≡ every (known b) m
+  one-known h = s ∙ every-more (known b) l x m e (rw i at (found-stands f (machines-rise b ok) h))
+
+-- ---- two lists
 
 pub every-splits : {A : Type 0} (f : A → Bool) (l m : List A) → every f (l ++ m) ≡ (every f l and every f m)
 unfolding every _and_
