@@ -39,7 +39,18 @@ watches-only c (Observing s w) h = refl
 watches-only c Short h = refl
 watches-only c (Other m) h = refl
 
-module _ (b : Board) (ok : wellFormed b ≡ true) (after : List ℕ) (t c : Shard) (n : c ≢ t) (seats : Table Seat) (x : Id) (row : ℕ) (f : Found mostMachines x noMachine (b .machines) row) where
+-- one that is not seated there yet may come
+module _ (b : Board) (ok : wellFormed b ≡ true) (c : Shard) (x : Id) (row : ℕ) (f : Found mostMachines x noMachine (b .machines) row) (l : row < mostMachines) (m : MayCome c x b) where
+  comes-from : isSeatedOn c (getD (b .machines) row noMachine .val) ≡ false → mayJoin c (getD (b .machines) row noMachine .key ∷ []) b ≡ true
+  comes-from n = rw (f .named l) (m _ (at-is (b .machines) (machines-rise b ok) x row noMachine (f .inside l) (f .named l)) n)
+
+  pub may-move : (t : Shard) → c ≢ t → isSeatedOn t (getD (b .machines) row noMachine .val) ≡ true → mayJoin c (getD (b .machines) row noMachine .key ∷ []) b ≡ true
+  may-move t n y = comes-from (not-both c t (getD (b .machines) row noMachine .val) n y)
+
+  pub may-sit : isObserving (getD (b .machines) row noMachine .val) ≡ true → mayJoin c (getD (b .machines) row noMachine .key ∷ []) b ≡ true
+  may-sit w = comes-from (watches-only c (getD (b .machines) row noMachine .val) w)
+
+module _ (b : Board) (ok : wellFormed b ≡ true) (after : List ℕ) (t c : Shard) (seats : Table Seat) (x : Id) (row : ℕ) (f : Found mostMachines x noMachine (b .machines) row) where
   pub unknown : mostMachines ≤ row → Holds after b → Holds after (settle t c seats x b)
   unfolding settle
   unknown l h = rw (f .missing l, settle) h
@@ -52,9 +63,6 @@ module _ (b : Board) (ok : wellFormed b ≡ true) (after : List ℕ) (t c : Shar
     there = at-is (b .machines) (machines-rise b ok) x row noMachine (f .inside l) (f .named l)
 
     module _ (y : isSeatedOn t here ≡ true) where
-      pub may-move : MayCome c x b → mayJoin c (getD (b .machines) row noMachine .key ∷ []) b ≡ true
-      may-move m = rw (f .named l) (m here there (not-both c t here n y))
-
       pub moved : (p : Place) → p ≡ movedTo c here → Holds after (putOn c (λ q. p) (getD (b .machines) row noMachine .key) b) → Holds after (settle t c seats x b)
       unfolding settle
       moved p e h = rw (there, settle, y) (put-as b ok c x (movedTo c) p row (f .inside l) (f .named l) e after h)
@@ -76,9 +84,6 @@ module _ (b : Board) (ok : wellFormed b ≡ true) (after : List ℕ) (t c : Shar
         not-watching w h = rw (there, settle, y, seat-there, w) h
 
         module _ (w : isObserving here ≡ true) where
-          pub may-sit : MayCome c x b → mayJoin c (getD (b .machines) row noMachine .key ∷ []) b ≡ true
-          may-sit z = rw (f .named l) (z here there (watches-only c here w))
-
           pub sits : (p : Place) → p ≡ seatedFromWatch c (seat .ready) (epochOf b) here → Holds after (putOn c (λ q. p) (getD (b .machines) row noMachine .key) b)
               → Holds after (settle t c seats x b)
           unfolding settle

@@ -12,7 +12,7 @@ right-at-requires c κs = search needs
 
 -- src/halves.rt:34:9
 returns : tie.Need-returns
-returns c = ?
+returns c = λ b h l k. rw (c .before .if1 .taken) (c .right-at .ensures b h l (rw (c .before .if1 .taken) at k))
 
 -- src/halves.rt:36:5
 left-at-requires : tie.Need-left-at-requires
@@ -20,7 +20,7 @@ left-at-requires c κs = search needs
 
 -- src/halves.rt:29:1
 returns-2 : tie.Need-returns-2
-returns-2 c = ?
+returns-2 c = λ b h l k. rw (c .before .if1 .left) (c .left-at .ensures b h l (rw (c .before .if1 .left) at k))
 
 pub half-at-spec : {M : Type 1} → statement M
 half-at-spec = tie.close (tie.spec right-at-requires returns left-at-requires returns-2)

@@ -1,3 +1,5 @@
+use mathlib.Core.Path.{_∙_}
+use Rattle.arriving.proofs.Comes.{row-fit}
 use borrow.Author.Needs.{needs}
 use Rattle.cut_splits.proofs.halves.half_count.Statement.{statement}
 use Rattle.cut_splits.proofs.halves.half_count.Tie as tie
@@ -17,7 +19,7 @@ rows-within-requires c κs = search needs
 
 -- src/halves.rt:24:9
 returns : tie.Need-returns
-returns c = ?
+returns c = (c .rows-within .ensures .0, λ b h ok l. let n = c .before .right-count .ensures b h l in rw (c .before .before .if1 .taken) (c .rows-within .ensures .1 (rw n (row-fit b ok _ l .right .room)) ∙ n))
 
 -- src/halves.rt:26:24
 left-count-requires : tie.Need-left-count-requires
@@ -29,7 +31,7 @@ rows-within-requires-2 c κs = search needs
 
 -- src/halves.rt:19:1
 returns-2 : tie.Need-returns-2
-returns-2 c = ?
+returns-2 c = (c .rows-within2 .ensures .0, λ b h ok l. let n = c .before .left-count .ensures b h l in rw (c .before .before .if1 .left) (c .rows-within2 .ensures .1 (rw n (row-fit b ok _ l .left .room)) ∙ n))
 
 pub half-count-spec : {M : Type 1} → statement M
 half-count-spec =

@@ -12,7 +12,7 @@ right-requires c κs = search needs
 
 -- src/settle.rt:91:9
 returns : tie.Need-returns
-returns c = ?
+returns c = rw (c .before .if1 .taken) (c .right .ensures)
 
 -- src/settle.rt:93:5
 left-requires : tie.Need-left-requires
@@ -20,7 +20,7 @@ left-requires c κs = search needs
 
 -- src/settle.rt:86:1
 returns-2 : tie.Need-returns-2
-returns-2 c = ?
+returns-2 c = rw (c .before .if1 .left) (c .left .ensures)
 
 pub child-of-spec : {M : Type 1} → statement M
 child-of-spec = tie.close (tie.spec right-requires returns left-requires returns-2)
