@@ -2,12 +2,13 @@
 use Prim.Native.Nat.{ℕ, _≤_, _<_}
 use mathlib.Core.Path.{_≡_, refl, ap, sym, _∙_}
 use mathlib.Core.List.{List, [], _∷_, _++_}
-use mathlib.Core.Bool.{Bool, true, false}
+use mathlib.Core.Bool.{Bool, true, false, true≢false}
 use Rattle.rules.specs.Lists.{_and_, every}
 use Rattle.rules.specs.Table.{stands}
 use Rattle.rules.specs.Board.{Board, mostMachines}
 use Rattle.rules.specs.WellFormed.{wellFormed}
 use Rattle.rules.specs.Moves.{forAll}
+use Rattle.rules.proofs.Tests.{every-parts}
 use Rattle.board.specs.Held.{noMachine}
 use Rattle.board.proofs.Keyed.{machines-rise}
 use Rattle.rows.specs.Found.{Found}
@@ -42,14 +43,20 @@ module _ (b : Board) (ok : wellFormed b ≡ true) (all l m : List ℕ) (x y : �
 
 -- ---- two lists
 
-pub every-splits : {A : Type 0} (f : A → Bool) (l m : List A) → every f (l ++ m) ≡ (every f l and every f m)
-unfolding every _and_
-every-splits f [] m = refl
-every-splits f (x ∷ l) m = go (f x) (every-splits f l m)
-  where
-    go : (q : Bool) → every f (l ++ m) ≡ (every f l and every f m) → (q and every f (l ++ m)) ≡ ((q and every f l) and every f m)
-    go true e = e
-    go false e = refl
+module _ {A : Type 0} (f : A → Bool) where
+  pub first-passes : (l m : List A) → every f l ≡ true → every f (l ++ m) ≡ every f m
+  unfolding every _and_
+  first-passes [] m e = refl
+  first-passes (x ∷ l) m e = let p = every-parts f x l e in rw (p .0) (first-passes l m (p .1))
+
+  pub first-fails : (l m : List A) → every f l ≡ false → every f (l ++ m) ≡ false
+  unfolding every _and_
+  first-fails [] m e = absurd (true≢false e)
+  first-fails (x ∷ l) m e = go (f x) e (first-fails l m)
+    where
+      go : (q : Bool) → (q and every f l) ≡ false → (every f l ≡ false → every f (l ++ m) ≡ false) → (q and every f (l ++ m)) ≡ false
+      go true h ih = ih h
+      go false h ih = refl
 
 pub forAll-append : {A : Type 0} (move : A → Board → Board) (l m : List A) (b : Board) → forAll move (l ++ m) b ≡ forAll move m (forAll move l b)
 unfolding forAll

@@ -1,6 +1,6 @@
 -- A shard's turn: its faults in order, and the board of the cut, one piece after another.
 use Prim.Native.Nat.{ℕ, _≤_, _<_}
-use mathlib.Core.Path.{_≡_, refl, ap, sym, _∙_}
+use mathlib.Core.Path.{_≡_, refl, ap, sym, subst, _∙_}
 use mathlib.Core.List.{List, [], _∷_, _++_}
 use mathlib.Core.Option.{Option, none, some}
 use mathlib.Core.Bool.{Bool, true, false, true≢false}
@@ -9,13 +9,14 @@ use lib.ListN.{length, getD}
 use Rattle.types.specs.Numbers.{Shard, Id, Height}
 use Rattle.types.specs.Shards.{leftOf, rightOf}
 use Rattle.types.specs.declared.Answer.the-variants.{NoRecord, NoBoundary, NoRoom}
+use Rattle.types.specs.declared.Outcome.{Outcome}
 use Rattle.rules.specs.Lists.{_and_, every}
 use Rattle.rules.specs.Table.{Table, at, stands, remove, keysOf}
 use Rattle.rules.specs.Board.{split, Reshape, Board, onReshapes}
 use Rattle.rules.specs.WellFormed.{isTarget, isWord, wellFormed}
 use Rattle.rules.specs.Moves.{forAll, boundsStand, heightOf}
-use Rattle.rules.specs.Turns.{finished, refused, checked}
-use Rattle.rules.specs.Cut.{recast, fits, cutFaults, settleChild, cutSplitOf, cutSplit}
+use Rattle.rules.specs.Turns.{finished, refused, checked, batch}
+use Rattle.rules.specs.Cut.{recast, fits, cutFaults, settleChild, cutSplitOf, cutSplit, cutSplits, due}
 use Rattle.rules.proofs.Turns.{Finishes, reshape-finishes}
 use Rattle.rules.proofs.KeptBoard.{family, Fit, Good, good-of, fit-at}
 use Rattle.rules.proofs.KeptCut.{good-recast, fresh-left, fresh-right, Settling, good-settleChild, cut-split-finishes}
@@ -26,9 +27,12 @@ use Rattle.board.proofs.Fitting.{held-as}
 use Rattle.board.proofs.Keyed.{bounds-rise, reshapes-rise}
 use Rattle.sampling.specs.declared.Reader.{Reader}
 use Rattle.pool.specs.Told.{Finished}
+use Rattle.steps.specs.Inner.{Step}
+use Rattle.batches.specs.Targets.{targetsOf}
+use Rattle.batches.specs.declared.Which.the-variants.{SplitsDue}
 use Rattle.recasting.specs.Recast.{recastTables}
 use Rattle.arriving.specs.Coming.{reshapeIn}
-use Rattle.cut_splits.specs.Settled.{cutBoard}
+use Rattle.cut_splits.specs.Settled.{halfOf, cutBoard}
 use Rattle.cut_splits.proofs.Children.{child-elsewhere, child-reshapes}
 
 -- ---- what a turn keeps
@@ -36,6 +40,14 @@ use Rattle.cut_splits.proofs.Children.{child-elsewhere, child-reshapes}
 pub turn-finishes : (t : Shard) (draws : List ℕ) (b : Board) → Good b → Finishes Good (cutSplit t draws b)
 unfolding cutSplit
 turn-finishes t draws b g = reshape-finishes Good t _ draws b g (λ r e. cut-split-finishes t r draws b (fit-at g t r e) g)
+
+pub as-step : (b : Board) (after : List ℕ) (r : Outcome) → Step (λ c. batch cutSplit (due split b) [] b) b after r → Step cutSplits b after r
+unfolding cutSplits
+as-step b after r s = record { told = s .told; left = s .left }
+
+pub due-are : (b : Board) → targetsOf SplitsDue b ≡ due split b
+unfolding due
+due-are b = refl
 
 -- ---- no split there
 
@@ -134,8 +146,23 @@ module _ (b : Board) (ok : wellFormed b ≡ true) (t : Shard) where
       abbrev two : Board
       two = settleChild t (rightOf t) (r .right) (r .seats) one
 
-      pub two-reshapes : two .reshapes ≡ b .reshapes
+      two-reshapes : two .reshapes ≡ b .reshapes
       two-reshapes = child-reshapes t (rightOf t) (r .seats) (r .right) one ∙ one-reshapes
+
+      -- a child filled by the lists of the reshape as it stood before
+      pub filled-by : (after : List ℕ) (d : Board) (c : Shard) (right : Bool) → d .reshapes ≡ b .reshapes
+          → Holds after (settleChild t c (halfOf right (reshapeIn i d)) (reshapeIn i d .seats) d) → Holds after (settleChild t c (halfOf right r) (r .seats) d)
+      filled-by after d c right q h =
+          subst (λ (u : Reshape). Holds after (settleChild t c (halfOf right u) (u .seats) d)) (ap (λ (z : Table Reshape). getD z i noReshape .val) q) h
+
+      pub founded-row : i < length (founded .reshapes)
+      founded-row = rw founded-reshapes l
+
+      pub one-row : i < length (one .reshapes)
+      one-row = rw one-reshapes l
+
+      pub two-row : i < length (two .reshapes)
+      two-row = rw two-reshapes l
 
       pub row-closed : (after : List ℕ) → Holds after (onReshapes (λ z. removeAt z i) two) → Holds after (cutBoard t r height b)
       row-closed after h =

@@ -99,9 +99,15 @@ module _ (t : Shard) (pos : 1 ≤ t) (height : Height) (b : Board) (h : Good b) 
       let f = From-remove t 0 cs (h .committees .rising) in
       let one = put (leftOf t) [] gone in
       let g = From-put (leftOf t) [] 0 gone (omega arith) f in
-      omega
-      (arith, remove-length t cs (h .committees .rising) [], put-length (leftOf t) gone f [], put-length (rightOf t) one g [],
-      lack-remove (leftOf t) t (omega arith) cs, lack-put (rightOf t) (leftOf t) (omega arith) gone [], lack-remove (rightOf t) t (omega arith) cs)
+      omega (
+        arith,
+        remove-length t cs (h .committees .rising) [],
+        put-length (leftOf t) gone f [],
+        put-length (rightOf t) one g [],
+        lack-remove (leftOf t) t (omega arith) cs,
+        lack-put (rightOf t) (leftOf t) (omega arith) gone [],
+        lack-remove (rightOf t) t (omega arith) cs,
+      )
 
   split-bounds : length (recast split t height b .bounds) ≡ length (b .bounds) + lack (leftOf t) (b .bounds) + lack (rightOf t) (b .bounds)
   unfolding recast forAll
@@ -119,5 +125,7 @@ module _ (t : Shard) (pos : 1 ≤ t) (height : Height) (b : Board) (h : Good b) 
   unfolding fits
   split-room {n} {a} {l} {r} {m} {x} {y} en ea el er em ex ey =
       and-is (leb (n + a + l + r) 25) (leb (m + x + y) mostBounds)
-      ∙ rw (same-test (n + a + l + r) (length (recast split t height b .committees)) 25 mostCommittees (λ k. omega (arith, split-committees)) (λ k. omega (arith, split-committees)),
-      same-test (m + x + y) (length (recast split t height b .bounds)) mostBounds mostBounds (λ k. omega (arith, split-bounds)) (λ k. omega (arith, split-bounds)))
+      ∙ rw (
+        same-test (n + a + l + r) (length (recast split t height b .committees)) 25 mostCommittees (λ k. omega (arith, split-committees)) (λ k. omega (arith, split-committees)),
+        same-test (m + x + y) (length (recast split t height b .bounds)) mostBounds mostBounds (λ k. omega (arith, split-bounds)) (λ k. omega (arith, split-bounds)),
+      )

@@ -79,15 +79,15 @@ loop-less c = search needs
 loop-again : tie.Need-loop-again Inv-loop μ-loop
 unfolding keysOf
 loop-again c = let a = c .before .before .before .before .loop in (
-      omega arith,
-      a .inv .1,
-      λ b h ok l.
-          let t = a .inv .2 b h ok l in
-          let seats = reshapeIn (c .before .before .before .before .before .before .before .before .args .i) b .seats in
-          let m : a .k < length seats = omega (arith, t .0, c .before .before .before .loop-test .taken) in
-          let i = ap (λ (e : Entry Seat). e .key) (c .before .before .at .ensures b h l m) in
-          (t .0, one-known b ok _ _ _ _ _ (keys-here (λ v. true) seats (a .k) noSeat m refl) i _ (c .before .machine-row .ensures b h ok) (t .1) (c .if1 .left)),
-    )
+  omega arith,
+  a .inv .1,
+  λ b h ok l.
+      let t = a .inv .2 b h ok l in
+      let seats = reshapeIn (c .before .before .before .before .before .before .before .before .args .i) b .seats in
+      let m : a .k < length seats = omega (arith, t .0, c .before .before .before .loop-test .taken) in
+      let i = ap (λ (e : Entry Seat). e .key) (c .before .before .at .ensures b h l m) in
+      (t .0, one-known b ok _ _ _ _ _ (keys-here (λ v. true) seats (a .k) noSeat m refl) i _ (c .before .machine-row .ensures b h ok) (t .1) (c .if1 .left)),
+)
 
 -- src/lib.rt:34:1
 returns-2 : tie.Need-returns-2 Inv-loop μ-loop

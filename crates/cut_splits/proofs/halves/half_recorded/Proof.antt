@@ -65,14 +65,14 @@ loop-less c = search needs
 -- src/halves.rt:47:5
 loop-again : tie.Need-loop-again Inv-loop μ-loop
 loop-again c = let a = c .before .before .before .before .loop in (
-      omega arith,
-      a .inv .1,
-      λ b h ok l.
-          let t = a .inv .2 b h ok l in
-          let half = halfOf (c .before .before .before .before .before .before .before .args .right) (reshapeIn (c .before .before .before .before .before .before .before .args .i) b) in
-          let m : a .k < length half = omega (arith, t .0, c .before .before .before .loop-test .taken) in
-          (t .0, rw add-one (one-known b ok _ _ _ _ _ (drop-cons half (a .k) 0 m) (c .before .before .half-at .ensures b h l m) _ (c .before .machine-row .ensures b h ok) (t .1) (c .if1 .left))),
-    )
+  omega arith,
+  a .inv .1,
+  λ b h ok l.
+      let t = a .inv .2 b h ok l in
+      let half = halfOf (c .before .before .before .before .before .before .before .args .right) (reshapeIn (c .before .before .before .before .before .before .before .args .i) b) in
+      let m : a .k < length half = omega (arith, t .0, c .before .before .before .loop-test .taken) in
+      (t .0, rw add-one (one-known b ok _ _ _ _ _ (drop-cons half (a .k) 0 m) (c .before .before .half-at .ensures b h l m) _ (c .before .machine-row .ensures b h ok) (t .1) (c .if1 .left))),
+)
 
 -- src/halves.rt:40:1
 returns-2 : tie.Need-returns-2 Inv-loop μ-loop

@@ -84,21 +84,21 @@ loop-less c = search needs
 -- src/settle.rt:107:5
 loop-again : tie.Need-loop-again Inv-loop μ-loop
 loop-again c = let a = c .before .before .before .before .before .loop in (
-      omega arith,
-      a .inv .1,
-      a .inv .2,
-      c .before .before .settle-next .kept .0 ∙ a .inv .3,
-      λ b h ok l tg e.
-          let g = c .before .before .before .before .before .before .before .before .before .before .before .before .before .args in
-          let t = a .inv .4 b h ok l tg e in
-          let u = t .2 in
-          let m : a .k < length (halfOf (g .right) (reshapeIn (g .i) b)) + length (reshapeIn (g .i) b .seats) = omega (arith, t .0, t .1, c .before .before .before .before .loop-test .taken) in
-          let n = rw (sym (c .before .before .before .before .before .before .before .before .before .before .before .child-of .ensures)) at (child-apart (g .right) (g .target .0) tg) in
-          let q = row-stays _ _ (g .right) (g .i) b _ _ u l in
-          let d = half-stays _ _ (g .right) (g .i) b _ _ u _ (t .0) in
-          let r = seats-stay _ _ (g .right) (g .i) b _ _ u _ (t .0) (omega (arith, m, t .0)) in
-          (t .0, t .1, one-came _ _ (g .right) (g .i) b _ _ u m n _ (c .before .before .settle-next .ensures (u .board) (u .held) (of-good (u .way .good)) q n d r (may-come _ _ (g .right) (g .i) b _ _ u m))),
-    )
+  omega arith,
+  a .inv .1,
+  a .inv .2,
+  c .before .before .settle-next .kept .0 ∙ a .inv .3,
+  λ b h ok l tg e.
+      let g = c .before .before .before .before .before .before .before .before .before .before .before .before .before .args in
+      let t = a .inv .4 b h ok l tg e in
+      let u = t .2 in
+      let m : a .k < length (halfOf (g .right) (reshapeIn (g .i) b)) + length (reshapeIn (g .i) b .seats) = omega (arith, t .0, t .1, c .before .before .before .before .loop-test .taken) in
+      let n = rw (sym (c .before .before .before .before .before .before .before .before .before .before .before .child-of .ensures)) at (child-apart (g .right) (g .target .0) tg) in
+      let q = row-stays _ _ (g .right) (g .i) b _ _ u l in
+      let d = half-stays _ _ (g .right) (g .i) b _ _ u _ (t .0) in
+      let r = seats-stay _ _ (g .right) (g .i) b _ _ u _ (t .0) (omega (arith, m, t .0)) in
+      (t .0, t .1, one-came _ _ (g .right) (g .i) b _ _ u m n _ (c .before .before .settle-next .ensures (u .board) (u .held) (of-good (u .way .good)) q n d r (may-come _ _ (g .right) (g .i) b _ _ u m))),
+)
 
 -- src/settle.rt:97:1
 same-length : tie.Need-same-length Inv-loop μ-loop
