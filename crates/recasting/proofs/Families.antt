@@ -9,7 +9,7 @@ use lib.ListN.{length, getD, set}
 use Rattle.types.specs.Numbers.{Shard, Id, Height}
 use Rattle.types.specs.Shards.{leftOf, rightOf}
 use Rattle.rules.specs.Table.{Entry, entry, Table, at, put, remove}
-use Rattle.rules.specs.Board.{Boundary, split, Board, mostCommittees, mostBounds, onCommittees, onBounds, onRotations, epochOf}
+use Rattle.rules.specs.Board.{Boundary, Kind, split, merge, Board, mostCommittees, mostBounds, onCommittees, onBounds, onReshapes, epochOf}
 use Rattle.rules.specs.WellFormed.{isShard, isTarget, isWord, wellFormed}
 use Rattle.rules.specs.Moves.{forAll, newBoundary, dropRotations}
 use Rattle.rules.specs.Cut.{endShard, beginShard, recast, fits}
@@ -18,7 +18,7 @@ use Rattle.rules.proofs.Tables.{From, From-put, From-remove}
 use Rattle.rules.proofs.KeptTables.{Rows-within, Rows-put, Rows-remove}
 use Rattle.rules.proofs.KeptRotations.{Rota-dropRotations}
 use Rattle.rules.proofs.KeptBoard.{Good, good-of, of-good, on-committees, on-bounds, on-rotations}
-use Rattle.rules.proofs.KeptCut.{new-committee, new-bound}
+use Rattle.rules.proofs.KeptCut.{new-committee, new-bound, good-recast}
 use Rattle.tables.specs.Rows.{placeOf, keyOf, insertAt, removeAt}
 use Rattle.tables.proofs.Keys.{first-most, remove-none, remove-is-removeAt, put-is-set, put-is-insertAt}
 use Rattle.board.specs.Held.{Holds, noCommittee, noBoundary}
@@ -112,3 +112,43 @@ module _ (t : Shard) (height : Height) (b : Board) (h : Good b) (f : fits (recas
   pub split-whole : (after : List ℕ) → Holds after (beginShard height (rightOf t) one-begun) → Holds after (recastTables split t height b)
   unfolding recastTables forAll
   split-whole after k = k
+
+-- ---- a merge's family
+
+module _ (t : Shard) (height : Height) (b : Board) (f : fits (recast merge t height b) ≡ true) where
+  abbrev both-ended : Board
+  both-ended = endShard (rightOf t) (endShard (leftOf t) b)
+
+  pub parent-fits : fits (beginShard height t both-ended) ≡ true
+  unfolding recast forAll fits
+  parent-fits = f
+
+  pub merge-whole : (after : List ℕ) → Holds after (beginShard height t both-ended) → Holds after (recastTables merge t height b)
+  unfolding recastTables forAll
+  merge-whole after k = k
+
+-- ---- either: the reshape's row may go first or last
+
+module _ (t : Shard) (height : Height) (b : Board) where
+  pub recast-is : (k : Kind) → recast k t height b ≡ onReshapes (remove t) (recastTables k t height b)
+  unfolding recast recastTables forAll
+  recast-is split = refl
+  recast-is merge = refl
+
+  pub tables-reshapes : (k : Kind) → recastTables k t height b .reshapes ≡ b .reshapes
+  unfolding recastTables forAll
+  tables-reshapes split = refl
+  tables-reshapes merge = refl
+
+  -- and the tables alone are good
+  pub tables-good : (k : Kind) → isTarget t ≡ true → isWord height ≡ true → fits (recast k t height b) ≡ true → Good b → Good (recastTables k t height b)
+  tables-good k ok w f h =
+      let g = rw (recast-is k) at (good-recast k t height b ok w f h) in
+      record {
+        settings = g .settings;
+        machines = g .machines;
+        committees = g .committees;
+        bounds = g .bounds;
+        rotations = g .rotations;
+        reshapes = rw (tables-reshapes k) (h .reshapes);
+      }

@@ -4,7 +4,8 @@ use mathlib.Core.Path.{_≡_, refl, ap, sym, _∙_}
 use mathlib.Core.Logic.{_≢_}
 use mathlib.Core.List.{[]}
 use mathlib.Core.Option.{Option, none, some}
-use mathlib.Core.Bool.{Bool, true, false, not, _&&_}
+use mathlib.Core.Bool.{true, false, not}
+use borrow.Author.Tests.{lt-leb}
 use native.Mathlib.Omega.{arith}
 use lib.Dec.{leb}
 use lib.ListN.{length, length-append, length-drop}
@@ -13,19 +14,19 @@ use Rattle.types.specs.Numbers.{Shard, Height}
 use Rattle.types.specs.Shards.{leftOf, rightOf}
 use Rattle.rules.specs.Lists.{_and_, bitOf}
 use Rattle.rules.specs.Table.{Entry, entry, Table, isSome, at, stands, put, remove}
-use Rattle.rules.specs.Board.{Board, split, mostCommittees, mostBounds, epochOf}
+use Rattle.rules.specs.Board.{Kind, split, merge, Board, mostCommittees, mostBounds, epochOf}
 use Rattle.rules.specs.Moves.{forAll, newBoundary}
 use Rattle.rules.specs.Cut.{recast, fits}
 use Rattle.rules.proofs.Counts.{eqb-apart}
 use Rattle.rules.proofs.Tables.{From, at-put, at-remove, From-put, From-remove}
-use Rattle.rules.proofs.Tests.{le-of, lt-of-no, from-rising}
+use Rattle.rules.proofs.Tests.{of-le, from-rising}
 use Rattle.rules.proofs.KeptTables.{length-replace}
 use Rattle.rules.proofs.KeptBoard.{Good}
 use Rattle.tables.specs.Rows.{Rising, keyOf, placeOf}
-use Rattle.tables.proofs.Bools.{and-is}
 use Rattle.tables.proofs.Keys.{first-most, at-is, remove-none, remove-is-removeAt, put-is-insertAt, place-is}
 use Rattle.board.proofs.Fitting.{insert-length}
 use Rattle.rows.specs.Found.{Found}
+use Rattle.recasting.specs.Recast.{lack, familyCount}
 
 -- ---- a row that was looked for
 
@@ -39,10 +40,6 @@ module _ {A : Type 0} {most k : ℕ} {d : Entry A} {t : Table A} {r : ℕ} (f : 
   missing-stands l = ap isSome (f .missing l)
 
 -- ---- one row
-
--- 1 where nothing stands at the key
-abbrev pub lack : {A : Type 0} → ℕ → Table A → ℕ
-lack k t = bitOf (not (stands k t))
 
 pub lack-none : {A : Type 0} (k : ℕ) (t : Table A) → at k t ≡ none → lack k t ≡ 1
 unfolding stands isSome
@@ -81,17 +78,8 @@ module _ {A : Type 0} (k j : ℕ) (n : k ≢ j) (t : Table A) where
 
 -- ---- a family
 
-same-test : (a b m n : ℕ) → (a ≤ m → b ≤ n) → (b ≤ n → a ≤ m) → leb a m ≡ leb b n
-same-test a b m n f g = go (leb a m) (leb b n) refl refl
-  where
-    go : (c d : Bool) → leb a m ≡ c → leb b n ≡ d → c ≡ d
-    go true true u v = refl
-    go true false u v = absurd (omega (arith, f (le-of a m u), lt-of-no b n v))
-    go false true u v = absurd (omega (arith, g (le-of b n v), lt-of-no a m u))
-    go false false u v = refl
-
 module _ (t : Shard) (pos : 1 ≤ t) (height : Height) (b : Board) (h : Good b) where
-  split-committees : length (recast split t height b .committees) + 1 ≡ length (b .committees) + lack t (b .committees) + lack (leftOf t) (b .committees) + lack (rightOf t) (b .committees)
+  split-committees : length (recast split t height b .committees) + 1 ≡ familyCount t b
   unfolding recast forAll
   split-committees =
       let cs = b .committees in
@@ -99,15 +87,8 @@ module _ (t : Shard) (pos : 1 ≤ t) (height : Height) (b : Board) (h : Good b) 
       let f = From-remove t 0 cs (h .committees .rising) in
       let one = put (leftOf t) [] gone in
       let g = From-put (leftOf t) [] 0 gone (omega arith) f in
-      omega (
-        arith,
-        remove-length t cs (h .committees .rising) [],
-        put-length (leftOf t) gone f [],
-        put-length (rightOf t) one g [],
-        lack-remove (leftOf t) t (omega arith) cs,
-        lack-put (rightOf t) (leftOf t) (omega arith) gone [],
-        lack-remove (rightOf t) t (omega arith) cs,
-      )
+      omega
+      (arith, remove-length t cs (h .committees .rising) [], put-length (leftOf t) gone f [], put-length (rightOf t) one g [], lack-remove (leftOf t) t (omega arith) cs, lack-put (rightOf t) (leftOf t) (omega arith) gone [], lack-remove (rightOf t) t (omega arith) cs)
 
   split-bounds : length (recast split t height b .bounds) ≡ length (b .bounds) + lack (leftOf t) (b .bounds) + lack (rightOf t) (b .bounds)
   unfolding recast forAll
@@ -118,14 +99,40 @@ module _ (t : Shard) (pos : 1 ≤ t) (height : Height) (b : Board) (h : Good b) 
       omega
       (arith, put-length (leftOf t) vs (h .bounds .rising) v, put-length (rightOf t) (put (leftOf t) v vs) f v, lack-put (rightOf t) (leftOf t) (omega arith) vs v)
 
-  -- as the code counts
-  pub split-room : {n a l r m x y : ℕ} → n ≡ length (b .committees) → a ≡ lack t (b .committees) → l ≡ lack (leftOf t) (b .committees) → r ≡ lack (rightOf t) (b .committees)
-      → m ≡ length (b .bounds) → x ≡ lack (leftOf t) (b .bounds) → y ≡ lack (rightOf t) (b .bounds)
-      → (leb (n + a + l + r) (mostCommittees + 1) && leb (m + x + y) mostBounds) ≡ fits (recast split t height b)
-  unfolding fits
-  split-room {n} {a} {l} {r} {m} {x} {y} en ea el er em ex ey =
-      and-is (leb (n + a + l + r) 25) (leb (m + x + y) mostBounds)
-      ∙ rw (
-        same-test (n + a + l + r) (length (recast split t height b .committees)) 25 mostCommittees (λ k. omega (arith, split-committees)) (λ k. omega (arith, split-committees)),
-        same-test (m + x + y) (length (recast split t height b .bounds)) mostBounds mostBounds (λ k. omega (arith, split-bounds)) (λ k. omega (arith, split-bounds)),
-      )
+  merge-committees : length (recast merge t height b .committees) + 2 ≡ familyCount t b
+  unfolding recast forAll
+  merge-committees =
+      let cs = b .committees in
+      let f = From-remove (leftOf t) 0 cs (h .committees .rising) in
+      let one = remove (leftOf t) cs in
+      let g = From-remove (rightOf t) 0 one f in
+      omega
+      (arith, remove-length (leftOf t) cs (h .committees .rising) [], remove-length (rightOf t) one f [], put-length t (remove (rightOf t) one) g [], lack-remove (rightOf t) (leftOf t) (omega arith) cs, lack-remove t (rightOf t) (omega arith) one, lack-remove t (leftOf t) (omega arith) cs)
+
+  merge-bounds : length (recast merge t height b .bounds) ≡ length (b .bounds) + lack t (b .bounds)
+  unfolding recast forAll
+  merge-bounds = put-length t (b .bounds) (h .bounds .rising) (newBoundary height (epochOf b))
+
+  -- as the code counts: committees, then boundaries
+  module _ (k : Kind) (old : ℕ) (e : length (recast k t height b .committees) + old ≡ familyCount t b) {n : ℕ} (en : n ≡ familyCount t b) where
+    pub committees-past : mostCommittees + old < n → false ≡ fits (recast k t height b)
+    unfolding fits _and_
+    committees-past l = rw (lt-leb (length (recast k t height b .committees)) mostCommittees (omega arith))
+
+    committees-within : n ≤ mostCommittees + old → fits (recast k t height b) ≡ leb (length (recast k t height b .bounds)) mostBounds
+    unfolding fits _and_
+    committees-within l = rw (of-le (length (recast k t height b .committees)) mostCommittees (omega arith))
+
+  module _ {n : ℕ} (en : n ≡ familyCount t b) where
+    pub split-past : mostCommittees + 1 < n → false ≡ fits (recast split t height b)
+    split-past = committees-past split 1 split-committees en
+
+    pub split-room : {m x y : ℕ} → n ≤ mostCommittees + 1 → m ≡ length (b .bounds) → x ≡ lack (leftOf t) (b .bounds) → y ≡ lack (rightOf t) (b .bounds)
+        → leb (m + x + y) mostBounds ≡ fits (recast split t height b)
+    split-room l em ex ey = rw (em, ex, ey) (ap (λ (z : ℕ). leb z mostBounds) (sym split-bounds) ∙ sym (committees-within split 1 split-committees en l))
+
+    pub merge-past : mostCommittees + 2 < n → false ≡ fits (recast merge t height b)
+    merge-past = committees-past merge 2 merge-committees en
+
+    pub merge-room : {m x : ℕ} → n ≤ mostCommittees + 2 → m ≡ length (b .bounds) → x ≡ lack t (b .bounds) → leb (m + x) mostBounds ≡ fits (recast merge t height b)
+    merge-room l em ex = rw (em, ex) (ap (λ (z : ℕ). leb z mostBounds) (sym merge-bounds) ∙ sym (committees-within merge 2 merge-committees en l))

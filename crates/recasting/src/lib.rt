@@ -9,19 +9,18 @@ use types::BlockHeight;
 use types::ShardId;
 ghost use mathlib.Core.Path.{_≡_};
 ghost use mathlib.Core.List.{[]};
-ghost use mathlib.Core.Bool.{true, not};
+ghost use mathlib.Core.Bool.{true};
 ghost use Prim.Native.Nat.{_≤_};
 ghost use lib.ListN.{length};
 ghost use Rattle.types.specs.Numbers.{Height};
-ghost use Rattle.rules.specs.Lists.{bitOf};
-ghost use Rattle.rules.specs.Table.{stands, put, remove};
+ghost use Rattle.rules.specs.Table.{put, remove};
 ghost use Rattle.rules.specs.Board.{Board, split, merge, mostCommittees, mostBounds, lastTarget, onCommittees, onBounds, epochOf};
 ghost use Rattle.rules.specs.WellFormed.{isShard, isTarget, isWord, wellFormed};
 ghost use Rattle.rules.specs.Moves.{newBoundary};
 ghost use Rattle.rules.specs.Cut.{endShard, beginShard, recast, fits};
 ghost use Rattle.board.specs.Layout.{boardSize};
 ghost use Rattle.board.specs.Held.{Holds};
-ghost use Rattle.recasting.specs.Recast.{recastTables};
+ghost use Rattle.recasting.specs.Recast.{lack, familyCount, recastTables};
 
 const LAST_EPOCH: u64 = 4294967295;
 
@@ -30,7 +29,7 @@ const LAST_EPOCH: u64 = 4294967295;
 // 1 where the shard has no committee.
 fn lacks_committee(board: &[u64], shard: ShardId) -> usize
     requires { ⌜ length (now board) ≡ boardSize ⌝ }
-    ensures { λ r. ⌜ (r ≤ 1) × ((b : Board) → Holds (now (board .entry)) b → wellFormed b ≡ true → r ≡ bitOf (not (stands (shard .0) (b .committees)))) ⌝ }
+    ensures { λ r. ⌜ (r ≤ 1) × ((b : Board) → Holds (now (board .entry)) b → wellFormed b ≡ true → r ≡ lack (shard .0) (b .committees)) ⌝ }
 {
     if MOST_COMMITTEES <= rows::committee_row(board, shard) {
         return 1;
@@ -41,7 +40,7 @@ fn lacks_committee(board: &[u64], shard: ShardId) -> usize
 // 1 where the shard has no boundary.
 fn lacks_boundary(board: &[u64], shard: ShardId) -> usize
     requires { ⌜ length (now board) ≡ boardSize ⌝ }
-    ensures { λ r. ⌜ (r ≤ 1) × ((b : Board) → Holds (now (board .entry)) b → wellFormed b ≡ true → r ≡ bitOf (not (stands (shard .0) (b .bounds)))) ⌝ }
+    ensures { λ r. ⌜ (r ≤ 1) × ((b : Board) → Holds (now (board .entry)) b → wellFormed b ≡ true → r ≡ lack (shard .0) (b .bounds)) ⌝ }
 {
     if MOST_BOUNDS <= rows::bound_row(board, shard) {
         return 1;
@@ -49,21 +48,42 @@ fn lacks_boundary(board: &[u64], shard: ShardId) -> usize
     0
 }
 
+// How many committees there are, with one for each of the family's shards that has none.
+fn family_count(board: &[u64], target: ShardId) -> usize
+    requires { ⌜ (length (now board) ≡ boardSize) × (target .0 ≤ lastTarget) ⌝ }
+    ensures { λ r. ⌜ ((b : Board) → Holds (now (board .entry)) b → wellFormed b ≡ true → r ≡ familyCount (target .0) b) ⌝ }
+{
+    let count = steps::rows_within(committees::count(board), MOST_COMMITTEES);
+    count
+        + lacks_committee(board, target)
+        + lacks_committee(board, target.left())
+        + lacks_committee(board, target.right())
+}
+
 // A split's cut has room: rows that stand are replaced and need none, and the target's committee goes.
 pub fn split_fits(board: &[u64], target: ShardId) -> bool
     requires { ⌜ (length (now board) ≡ boardSize) × (target .0 ≤ lastTarget) ⌝ }
     ensures { λ r. ⌜ ((b : Board) → Holds (now (board .entry)) b → wellFormed b ≡ true → isTarget (target .0) ≡ true → (height : Height) → r ≡ fits (recast split (target .0) height b)) ⌝ }
 {
-    let left = target.left();
-    let right = target.right();
-    let committees = steps::rows_within(committees::count(board), MOST_COMMITTEES);
+    if MOST_COMMITTEES + 1 < family_count(board, target) {
+        return false;
+    }
     let bounds = steps::rows_within(bounds::count(board), MOST_BOUNDS);
-    let fit = committees
-        + lacks_committee(board, target)
-        + lacks_committee(board, left)
-        + lacks_committee(board, right)
-        <= MOST_COMMITTEES + 1;
-    fit & (bounds + lacks_boundary(board, left) + lacks_boundary(board, right) <= MOST_BOUNDS)
+    let left = lacks_boundary(board, target.left());
+    let right = lacks_boundary(board, target.right());
+    bounds + left + right <= MOST_BOUNDS
+}
+
+// A merge's cut has room: both children's committees go.
+pub fn merge_fits(board: &[u64], target: ShardId) -> bool
+    requires { ⌜ (length (now board) ≡ boardSize) × (target .0 ≤ lastTarget) ⌝ }
+    ensures { λ r. ⌜ ((b : Board) → Holds (now (board .entry)) b → wellFormed b ≡ true → isTarget (target .0) ≡ true → (height : Height) → r ≡ fits (recast merge (target .0) height b)) ⌝ }
+{
+    if MOST_COMMITTEES + 2 < family_count(board, target) {
+        return false;
+    }
+    let bounds = steps::rows_within(bounds::count(board), MOST_BOUNDS);
+    bounds + lacks_boundary(board, target) <= MOST_BOUNDS
 }
 
 // ---- an old shard
@@ -150,4 +170,15 @@ pub fn split_family(board: &mut [u64], target: ShardId, height: BlockHeight)
     end_shard(board, target);
     begin_shard(board, target.left(), height);
     begin_shard(board, target.right(), height);
+}
+
+// A merge's children end, and its target begins.
+pub fn merge_family(board: &mut [u64], target: ShardId, height: BlockHeight)
+    requires { ⌜ (length (now board) ≡ boardSize) × (target .0 ≤ lastTarget) ⌝ }
+    ensures { λ _. ⌜ ((b : Board) → Holds (now (board .entry)) b → wellFormed b ≡ true → isTarget (target .0) ≡ true → isWord (height .0) ≡ true →
+        fits (recast merge (target .0) (height .0) b) ≡ true → Holds (now (board .exit)) (recastTables merge (target .0) (height .0) b)) ⌝ }
+{
+    end_shard(board, target.left());
+    end_shard(board, target.right());
+    begin_shard(board, target, height);
 }

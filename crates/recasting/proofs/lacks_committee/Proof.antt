@@ -1,5 +1,3 @@
-use mathlib.Core.Path.{sym}
-use mathlib.Core.Bool.{not}
 use native.Mathlib.Omega.{arith}
 use Rattle.board.proofs.Keyed.{committees-rise}
 use Rattle.recasting.proofs.Sizes.{found-stands, missing-stands}
