@@ -1,6 +1,7 @@
 -- One machine comes to a shard: what is asked before, and its move, as the code has it at the machine's row.
 use Prim.Native.Nat.{ℕ, _+_, _≤_, _<_}
 use mathlib.Core.Path.{_≡_, refl, ap, sym, _∙_}
+use mathlib.Core.Logic.{_≢_}
 use mathlib.Core.List.{List, [], _∷_}
 use mathlib.Core.Option.{Option, none, some}
 use mathlib.Core.Bool.{Bool, true, false, not}
@@ -9,14 +10,16 @@ use borrow.Author.Tests.{lt-leb, lt-ltb}
 use lib.Dec.{leb, ltb}
 use lib.ListN.{length, getD, set}
 use Rattle.types.specs.Numbers.{Shard, Id}
+use Rattle.types.specs.Places.{isSeatedOn}
 use Rattle.types.specs.declared.Place.{Place}
+use Rattle.types.specs.declared.Place.the-variants.{Pooled, Seated, Observing, Short, Other}
 use Rattle.rules.specs.Lists.{_and_, _or_, every, has}
 use Rattle.rules.specs.Table.{entry, isSome, at, stands}
-use Rattle.rules.specs.Board.{Board, mostCommittees, mostMembers, onMachines}
+use Rattle.rules.specs.Board.{Board, mostMachines, mostCommittees, onMachines}
 use Rattle.rules.specs.WellFormed.{wellFormed}
 use Rattle.rules.specs.Moves.{membersOf, place, join, putOn, mayJoin}
-use Rattle.rules.proofs.Counts.{hit-same, occ, occ-single}
-use Rattle.rules.proofs.Tests.{and-joins, or-left, or-right, of-le, has-occ, not-of}
+use Rattle.rules.proofs.Counts.{eqb-apart, hit-same, occ, occ-single}
+use Rattle.rules.proofs.Tests.{and-joins, or-left, or-right, of-le, eq-of, has-occ, not-of}
 use Rattle.rules.proofs.KeptBoard.{Fit, Good, good-of, fit-at}
 use Rattle.rules.proofs.KeptMoves.{Joins}
 use Rattle.tables.proofs.Keys.{at-is}
@@ -24,8 +27,9 @@ use Rattle.board.specs.Held.{Holds, noMachine, noReshape}
 use Rattle.board.proofs.Fitting.{held-as}
 use Rattle.board.proofs.Keyed.{machines-rise, reshapes-rise}
 use Rattle.board.proofs.Moves.{place-at}
+use Rattle.rows.specs.Found.{Found}
 use Rattle.recasting.proofs.Sizes.{put-length, lack-none}
-use Rattle.arriving.specs.Coming.{reshapeIn}
+use Rattle.arriving.specs.Coming.{reshapeIn, MayCome}
 
 -- what 11 asks, of one that is known to have room
 pub joins-may : {b : Board} {c : Shard} {x : Id} → Good b → Joins c (x ∷ []) b → mayJoin c (x ∷ []) b ≡ true
@@ -38,6 +42,19 @@ joins-may {b} {c} {x} h j = and-joins _ _ (stood (at c (b .committees)) refl) (a
     stood : (o : Option (List Id)) → at c (b .committees) ≡ o → (stands c (b .committees) or ltb (length (b .committees)) mostCommittees) ≡ true
     stood none q = or-right _ _ (lt-ltb (length (b .committees)) mostCommittees (omega (arith, j .opens [], put-length c (b .committees) (h .committees .rising) [], lack-none c (b .committees) q)))
     stood (some l) q = or-left _ _ (ap isSome q)
+
+-- ---- one that is not seated there yet
+
+pub not-both : (c t : Shard) (p : Place) → c ≢ t → isSeatedOn t p ≡ true → isSeatedOn c p ≡ false
+not-both c t Pooled n h = refl
+not-both c t (Seated s r w) n h = eqb-apart (s .0) c (λ e. n (sym e ∙ eq-of (s .0) t h))
+not-both c t (Observing s w) n h = refl
+not-both c t Short n h = refl
+not-both c t (Other m) n h = refl
+
+pub comes-from : (b : Board) → wellFormed b ≡ true → (c : Shard) (x : Id) (row : ℕ) → Found mostMachines x noMachine (b .machines) row → row < mostMachines → MayCome c x b
+    → isSeatedOn c (getD (b .machines) row noMachine .val) ≡ false → mayJoin c (getD (b .machines) row noMachine .key ∷ []) b ≡ true
+comes-from b ok c x row f l m n = rw (f .named l) (m _ (at-is (b .machines) (machines-rise b ok) x row noMachine (f .inside l) (f .named l)) n)
 
 -- the place that the code computed is the move's
 pub put-as : (b : Board) → wellFormed b ≡ true → (s : Shard) (x : Id) (move : Place → Place) (p : Place) (i : ℕ) → i < length (b .machines) → getD (b .machines) i noMachine .key ≡ x

@@ -14,12 +14,12 @@ use Rattle.rules.specs.Lists.{_and_, every}
 use Rattle.rules.specs.Table.{Table, at, stands, remove, keysOf}
 use Rattle.rules.specs.Board.{split, Reshape, Board, onReshapes}
 use Rattle.rules.specs.WellFormed.{isTarget, isWord, wellFormed}
-use Rattle.rules.specs.Moves.{forAll, boundsStand, heightOf}
+use Rattle.rules.specs.Moves.{boundsStand, heightOf}
 use Rattle.rules.specs.Turns.{finished, refused, checked, batch}
 use Rattle.rules.specs.Cut.{recast, fits, cutFaults, settleChild, cutSplitOf, cutSplit, cutSplits, due}
 use Rattle.rules.proofs.Turns.{Finishes, reshape-finishes}
 use Rattle.rules.proofs.KeptBoard.{family, Fit, Good, good-of, fit-at}
-use Rattle.rules.proofs.KeptCut.{good-recast, fresh-left, fresh-right, Settling, good-settleChild, cut-split-finishes}
+use Rattle.rules.proofs.KeptCut.{fresh-left, fresh-right, Settling, good-settleChild, cut-split-finishes}
 use Rattle.tables.specs.Rows.{removeAt}
 use Rattle.tables.proofs.Keys.{at-is, remove-is-removeAt}
 use Rattle.board.specs.Held.{Holds, noBoundary, noReshape}
@@ -31,6 +31,7 @@ use Rattle.steps.specs.Inner.{Step}
 use Rattle.batches.specs.Targets.{targetsOf}
 use Rattle.batches.specs.declared.Which.the-variants.{SplitsDue}
 use Rattle.recasting.specs.Recast.{recastTables}
+use Rattle.recasting.proofs.Families.{recast-is, tables-reshapes, tables-good}
 use Rattle.arriving.specs.Coming.{reshapeIn}
 use Rattle.cut_splits.specs.Settled.{halfOf, cutBoard}
 use Rattle.cut_splits.proofs.Children.{child-elsewhere, child-reshapes}
@@ -110,23 +111,17 @@ module _ (b : Board) (ok : wellFormed b ≡ true) (t : Shard) where
       abbrev founded : Board
       founded = recastTables split t height b
 
-      recast-is : recast split t height b ≡ onReshapes (remove t) founded
-      unfolding recast recastTables forAll
-      recast-is = refl
-
       pub founded-good : Good founded
-      unfolding recast recastTables forAll
-      founded-good =
-          let g = good-of b ok in
-          let k = good-recast split t height b (fit .target) w f g in
-          record { settings = k .settings; machines = k .machines; committees = k .committees; bounds = k .bounds; rotations = k .rotations; reshapes = g .reshapes }
+      founded-good = tables-good t height b split (fit .target) w f (good-of b ok)
 
       pub founded-reshapes : founded .reshapes ≡ b .reshapes
-      unfolding recastTables forAll
-      founded-reshapes = refl
+      founded-reshapes = tables-reshapes t height b split
+
+      cut-is : recast split t height b ≡ onReshapes (remove t) founded
+      cut-is = recast-is t height b split
 
       pub left-empty : at (leftOf t) (founded .committees) ≡ some []
-      left-empty = rw recast-is at (fresh-left t height b)
+      left-empty = rw cut-is at (fresh-left t height b)
 
       abbrev one : Board
       one = settleChild t (leftOf t) (r .left) (r .seats) founded
@@ -138,7 +133,7 @@ module _ (b : Board) (ok : wellFormed b ≡ true) (t : Shard) where
       one-good = left-filled .good
 
       pub right-empty : at (rightOf t) (one .committees) ≡ some []
-      right-empty = left-filled .others (rightOf t) (omega arith) ∙ (rw recast-is at (fresh-right t height b))
+      right-empty = left-filled .others (rightOf t) (omega arith) ∙ (rw cut-is at (fresh-right t height b))
 
       pub one-reshapes : one .reshapes ≡ b .reshapes
       one-reshapes = child-reshapes t (leftOf t) (r .seats) (r .left) founded ∙ founded-reshapes
@@ -168,7 +163,7 @@ module _ (b : Board) (ok : wellFormed b ≡ true) (t : Shard) where
       row-closed after h =
           let closed : removeAt (two .reshapes) i ≡ remove t (two .reshapes) = rw two-reshapes (sym (remove-is-removeAt (b .reshapes) (reshapes-rise b ok) t i noReshape l e)) in
           let left : settleChild t (leftOf t) (r .left) (r .seats) (recast split t height b) ≡ onReshapes (remove t) one =
-          ap (settleChild t (leftOf t) (r .left) (r .seats)) recast-is ∙ child-elsewhere t (leftOf t) (r .seats) (remove t) (r .left) founded in
+          ap (settleChild t (leftOf t) (r .left) (r .seats)) cut-is ∙ child-elsewhere t (leftOf t) (r .seats) (remove t) (r .left) founded in
           held-as after _ _
           (ap (λ (z : Table Reshape). onReshapes (λ _. z) two) closed
           ∙ sym (ap (settleChild t (rightOf t) (r .right) (r .seats)) left ∙ child-elsewhere t (rightOf t) (r .seats) (remove t) (r .right) one)) h

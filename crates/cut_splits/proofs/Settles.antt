@@ -15,22 +15,13 @@ use Rattle.rules.specs.Board.{Seat, Board, mostMachines, mostSeats, epochOf}
 use Rattle.rules.specs.WellFormed.{wellFormed}
 use Rattle.rules.specs.Moves.{mayJoin, putOn}
 use Rattle.rules.specs.Cut.{settle}
-use Rattle.rules.proofs.Counts.{eqb-apart}
-use Rattle.rules.proofs.Tests.{eq-of}
 use Rattle.tables.specs.Rows.{Rising, keyOf}
 use Rattle.tables.proofs.Keys.{at-is}
 use Rattle.board.specs.Held.{Holds, noMachine, noSeat}
 use Rattle.board.proofs.Keyed.{machines-rise}
 use Rattle.rows.specs.Found.{Found}
-use Rattle.arriving.proofs.Comes.{put-as}
+use Rattle.arriving.proofs.Comes.{not-both, comes-from, put-as}
 use Rattle.arriving.specs.Coming.{MayCome}
-
-not-both : (c t : Shard) (p : Place) → c ≢ t → isSeatedOn t p ≡ true → isSeatedOn c p ≡ false
-not-both c t Pooled n h = refl
-not-both c t (Seated s r w) n h = eqb-apart (s .0) c (λ e. n (sym e ∙ eq-of (s .0) t h))
-not-both c t (Observing s w) n h = refl
-not-both c t Short n h = refl
-not-both c t (Other m) n h = refl
 
 watches-only : (c : Shard) (p : Place) → isObserving p ≡ true → isSeatedOn c p ≡ false
 watches-only c Pooled h = refl
@@ -41,14 +32,11 @@ watches-only c (Other m) h = refl
 
 -- one that is not seated there yet may come
 module _ (b : Board) (ok : wellFormed b ≡ true) (c : Shard) (x : Id) (row : ℕ) (f : Found mostMachines x noMachine (b .machines) row) (l : row < mostMachines) (m : MayCome c x b) where
-  comes-from : isSeatedOn c (getD (b .machines) row noMachine .val) ≡ false → mayJoin c (getD (b .machines) row noMachine .key ∷ []) b ≡ true
-  comes-from n = rw (f .named l) (m _ (at-is (b .machines) (machines-rise b ok) x row noMachine (f .inside l) (f .named l)) n)
-
   pub may-move : (t : Shard) → c ≢ t → isSeatedOn t (getD (b .machines) row noMachine .val) ≡ true → mayJoin c (getD (b .machines) row noMachine .key ∷ []) b ≡ true
-  may-move t n y = comes-from (not-both c t (getD (b .machines) row noMachine .val) n y)
+  may-move t n y = comes-from b ok c x row f l m (not-both c t (getD (b .machines) row noMachine .val) n y)
 
   pub may-sit : isObserving (getD (b .machines) row noMachine .val) ≡ true → mayJoin c (getD (b .machines) row noMachine .key ∷ []) b ≡ true
-  may-sit w = comes-from (watches-only c (getD (b .machines) row noMachine .val) w)
+  may-sit w = comes-from b ok c x row f l m (watches-only c (getD (b .machines) row noMachine .val) w)
 
 module _ (b : Board) (ok : wellFormed b ≡ true) (after : List ℕ) (t c : Shard) (seats : Table Seat) (x : Id) (row : ℕ) (f : Found mostMachines x noMachine (b .machines) row) where
   pub unknown : mostMachines ≤ row → Holds after b → Holds after (settle t c seats x b)
