@@ -1,31 +1,31 @@
 -- One machine comes to a shard: what is asked before, and its move, as the code has it at the machine's row.
-use Prim.Native.Nat.{ℕ, _+_, _≤_, _<_}
+use Prim.Native.Nat.{ℕ, _≤_, _<_}
 use mathlib.Core.Path.{_≡_, refl, ap, sym, _∙_}
 use mathlib.Core.Logic.{_≢_}
 use mathlib.Core.List.{List, [], _∷_}
 use mathlib.Core.Option.{Option, none, some}
-use mathlib.Core.Bool.{Bool, true, false, not}
+use mathlib.Core.Bool.{true, false, not, true≢false}
 use native.Mathlib.Omega.{arith}
 use borrow.Author.Tests.{lt-leb, lt-ltb}
-use lib.Dec.{leb, ltb}
+use lib.Dec.{ltb}
 use lib.ListN.{length, getD, set}
 use Rattle.types.specs.Numbers.{Shard, Id}
 use Rattle.types.specs.Places.{isSeatedOn}
 use Rattle.types.specs.declared.Place.{Place}
 use Rattle.types.specs.declared.Place.the-variants.{Pooled, Seated, Observing, Short, Other}
 use Rattle.rules.specs.Lists.{_and_, _or_, every, has}
-use Rattle.rules.specs.Table.{entry, isSome, at, stands}
-use Rattle.rules.specs.Board.{Board, mostMachines, mostCommittees, onMachines}
-use Rattle.rules.specs.WellFormed.{wellFormed}
-use Rattle.rules.specs.Moves.{membersOf, place, join, putOn, mayJoin}
+use Rattle.rules.specs.Table.{entry, Table, isSome, at, stands}
+use Rattle.rules.specs.Board.{Reshape, Board, mostMachines, mostCommittees, lastTarget, onMachines, onReshapes}
+use Rattle.rules.specs.WellFormed.{isTarget, wellFormed}
+use Rattle.rules.specs.Moves.{membersOf, place, join, putOn, mayJoin, heightOf}
 use Rattle.rules.proofs.Counts.{eqb-apart, hit-same, occ, occ-single}
-use Rattle.rules.proofs.Tests.{and-joins, or-left, or-right, of-le, eq-of, has-occ, not-of}
+use Rattle.rules.proofs.Tests.{and-parts, and-joins, or-left, or-right, le-of, of-le, eq-of, has-occ, not-of}
 use Rattle.rules.proofs.KeptBoard.{Fit, Good, good-of, fit-at}
 use Rattle.rules.proofs.KeptMoves.{Joins}
 use Rattle.tables.proofs.Keys.{at-is}
-use Rattle.board.specs.Held.{Holds, noMachine, noReshape}
+use Rattle.board.specs.Held.{Holds, noMachine, noBoundary, noReshape}
 use Rattle.board.proofs.Fitting.{held-as}
-use Rattle.board.proofs.Keyed.{machines-rise, reshapes-rise}
+use Rattle.board.proofs.Keyed.{machines-rise, bounds-rise, reshapes-rise}
 use Rattle.board.proofs.Moves.{place-at}
 use Rattle.rows.specs.Found.{Found}
 use Rattle.recasting.proofs.Sizes.{put-length, lack-none}
@@ -73,3 +73,25 @@ put-held after b s x id p e h = rw e at h
 -- what is known of the reshape at a row
 pub row-fit : (b : Board) → wellFormed b ≡ true → (i : ℕ) → i < length (b .reshapes) → Fit (getD (b .reshapes) i noReshape .key) (reshapeIn i b)
 row-fit b ok i l = fit-at (good-of b ok) _ _ (at-is (b .reshapes) (reshapes-rise b ok) _ i noReshape l refl)
+
+-- the reshapes have no part in it
+pub put-elsewhere : (s : Shard) (f : Table Reshape → Table Reshape) (move : Place → Place) (x : Id) (b : Board) → putOn s move x (onReshapes f b) ≡ onReshapes f (putOn s move x b)
+unfolding putOn join place membersOf
+put-elsewhere s f move x b = refl
+
+-- ---- what is asked of a target
+
+pub target-within : (t : Shard) → isTarget t ≡ true → t ≤ lastTarget
+target-within t ok = le-of t lastTarget (and-parts _ _ ok .1)
+
+pub no-target : (b : Board) → wellFormed b ≡ true → (t : Shard) → isTarget t ≡ false → at t (b .reshapes) ≡ none
+no-target b ok t n = go (at t (b .reshapes)) refl
+  where
+    go : (o : Option Reshape) → at t (b .reshapes) ≡ o → o ≡ none
+    go none e = refl
+    go (some r) e = absurd (true≢false (sym (fit-at (good-of b ok) t r e .target) ∙ n))
+
+pub height-is : (b : Board) → wellFormed b ≡ true → (s : Shard) (v : ℕ) → v < length (b .bounds) → getD (b .bounds) v noBoundary .key ≡ s
+    → heightOf s b ≡ getD (b .bounds) v noBoundary .val .height
+unfolding heightOf
+height-is b ok s v m k = rw (at-is (b .bounds) (bounds-rise b ok) s v noBoundary m k, heightOf)

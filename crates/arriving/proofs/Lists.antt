@@ -4,8 +4,8 @@ use mathlib.Core.Path.{_≡_, refl, ap, sym, _∙_}
 use mathlib.Core.List.{List, [], _∷_, _++_}
 use mathlib.Core.Bool.{Bool, true, false, true≢false}
 use Rattle.rules.specs.Lists.{_and_, every}
-use Rattle.rules.specs.Table.{stands}
-use Rattle.rules.specs.Board.{Board, mostMachines}
+use Rattle.rules.specs.Table.{Table, stands}
+use Rattle.rules.specs.Board.{Reshape, Board, mostMachines, onReshapes}
 use Rattle.rules.specs.WellFormed.{wellFormed}
 use Rattle.rules.specs.Moves.{forAll}
 use Rattle.rules.proofs.Tests.{every-parts}
@@ -62,3 +62,10 @@ pub forAll-append : {A : Type 0} (move : A → Board → Board) (l m : List A) (
 unfolding forAll
 forAll-append move [] m b = refl
 forAll-append move (x ∷ l) m b = forAll-append move l m (move x b)
+
+-- moves that leave the reshapes alone may come before a change of them, or after
+pub forAll-elsewhere : {A : Type 0} (f : Table Reshape → Table Reshape) (move : A → Board → Board) → ((x : A) (b : Board) → move x (onReshapes f b) ≡ onReshapes f (move x b))
+    → (l : List A) (b : Board) → forAll move l (onReshapes f b) ≡ onReshapes f (forAll move l b)
+unfolding forAll
+forAll-elsewhere f move k [] b = refl
+forAll-elsewhere f move k (x ∷ l) b = ap (forAll move l) (k x b) ∙ forAll-elsewhere f move k l (move x b)

@@ -1,9 +1,9 @@
 -- A shard's turn: its faults in order, and the board of the cut, one piece after another.
-use Prim.Native.Nat.{ℕ, _≤_, _<_}
+use Prim.Native.Nat.{ℕ, _<_}
 use mathlib.Core.Path.{_≡_, refl, ap, sym, subst, _∙_}
 use mathlib.Core.List.{List, [], _∷_, _++_}
-use mathlib.Core.Option.{Option, none, some}
-use mathlib.Core.Bool.{Bool, true, false, true≢false}
+use mathlib.Core.Option.{none, some}
+use mathlib.Core.Bool.{Bool, true, false}
 use native.Mathlib.Omega.{arith}
 use lib.ListN.{length, getD}
 use Rattle.types.specs.Numbers.{Shard, Id, Height}
@@ -13,20 +13,19 @@ use Rattle.types.specs.declared.Answer.the-variants.{NoRecord, NoBoundary, NoRo
 use Rattle.types.specs.declared.Outcome.{Outcome}
 use Rattle.rules.specs.Lists.{_and_, every}
 use Rattle.rules.specs.Table.{Table, at, stands, remove, keysOf}
-use Rattle.rules.specs.Board.{merge, Seat, Reshape, Board, lastTarget, onReshapes}
-use Rattle.rules.specs.WellFormed.{isTarget, isWord, wellFormed}
+use Rattle.rules.specs.Board.{merge, Seat, Reshape, Board, onReshapes}
+use Rattle.rules.specs.WellFormed.{isWord, wellFormed}
 use Rattle.rules.specs.Moves.{membersOf, place, forAll, boundsStand, heightOf}
 use Rattle.rules.specs.Turns.{finished, refused, checked, batch}
 use Rattle.rules.specs.Cut.{recast, fits, cutFaults, due, others, rejoin, larger, cutMergeOf, cutMerge, cutMerges}
-use Rattle.rules.proofs.Tests.{and-parts, le-of}
 use Rattle.rules.proofs.Turns.{forAll-keeps, Finishes, reshape-finishes}
 use Rattle.rules.proofs.KeptBoard.{Fit, Good, good-of, fit-at}
 use Rattle.rules.proofs.KeptCut.{fresh-parent, cut-merge-finishes}
 use Rattle.tables.specs.Rows.{removeAt}
 use Rattle.tables.proofs.Keys.{at-is, remove-is-removeAt}
-use Rattle.board.specs.Held.{Holds, noBoundary, noReshape}
+use Rattle.board.specs.Held.{Holds, noReshape}
 use Rattle.board.proofs.Fitting.{held-as}
-use Rattle.board.proofs.Keyed.{bounds-rise, reshapes-rise}
+use Rattle.board.proofs.Keyed.{reshapes-rise}
 use Rattle.sampling.specs.declared.Reader.{Reader}
 use Rattle.pool.specs.Told.{Finished}
 use Rattle.steps.specs.Inner.{Step}
@@ -54,9 +53,6 @@ pub due-are : (b : Board) → targetsOf MergesDue b ≡ due merge b
 unfolding due
 due-are b = refl
 
-pub target-within : (t : Shard) → isTarget t ≡ true → t ≤ lastTarget
-target-within t ok = le-of t lastTarget (and-parts _ _ ok .1)
-
 -- ---- pooling and the family's tables do not meet
 
 recast-place : (t : Shard) (height : Height) (x : Id) (b : Board) → recast merge t height (place x pooled b) ≡ place x pooled (recast merge t height b)
@@ -76,20 +72,9 @@ pool-fits l b = forAll-keeps (λ (d : Board). fits d ≡ fits b) (λ x. place x 
 -- ---- no merge there
 
 module _ (b : Board) (ok : wellFormed b ≡ true) (t : Shard) where
-  pub no-target : isTarget t ≡ false → at t (b .reshapes) ≡ none
-  no-target n = go (at t (b .reshapes)) refl
-    where
-      go : (o : Option Reshape) → at t (b .reshapes) ≡ o → o ≡ none
-      go none e = refl
-      go (some r) e = absurd (true≢false (sym (fit-at (good-of b ok) t r e .target) ∙ n))
-
   pub nothing-due : at t (b .reshapes) ≡ none → (after : List ℕ) → Holds after b → (left : Reader) → left .at ≡ 0 → Finished [] after (cutMerge t [] b) 0 left
   unfolding cutMerge
   nothing-due q after h left z = record { board = b; read = omega (arith, z); turn = rw (q, cutMerge, z); holds = h }
-
-  pub height-is : (s : Shard) (v : ℕ) → v < length (b .bounds) → getD (b .bounds) v noBoundary .key ≡ s → heightOf s b ≡ getD (b .bounds) v noBoundary .val .height
-  unfolding heightOf
-  height-is s v m k = rw (at-is (b .bounds) (bounds-rise b ok) s v noBoundary m k, heightOf)
 
   -- ---- the merge at row i
 

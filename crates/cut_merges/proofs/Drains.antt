@@ -1,9 +1,8 @@
 -- A child's members who are no keepers go to the pool, one after another; their committees stand all along.
 use Prim.Native.Nat.{ℕ, _+_, _≤_, _<_}
-use mathlib.Core.Path.{_≡_, refl, ap, sym, subst, _∙_}
+use mathlib.Core.Path.{_≡_, refl, ap, sym, _∙_}
 use mathlib.Core.List.{List, [], _∷_}
 use mathlib.Core.Bool.{Bool, true, false, cond, not}
-use native.Mathlib.Omega.{arith}
 use native.Mathlib.Numerals.{add-one}
 use lib.ListN.{length, getD, drop, drop-of-length-le}
 use lib.Seq.{drop-cons}
@@ -12,7 +11,6 @@ use Rattle.types.specs.Places.{pooled}
 use Rattle.rules.specs.Lists.{keep}
 use Rattle.rules.specs.Table.{Table, stands}
 use Rattle.rules.specs.Board.{Seat, Reshape, Board, mostMembers, mostSeats}
-use Rattle.rules.specs.WellFormed.{wellFormed}
 use Rattle.rules.specs.Moves.{membersOf, place, forAll}
 use Rattle.rules.proofs.Tests.{by-cases}
 use Rattle.rules.proofs.KeptBoard.{Good, of-good}

@@ -1,7 +1,7 @@
 -- The keepers join the parent: each way out of one turn, and the committee on its way.
 use Prim.Native.Nat.{ℕ, _+_, _≤_, _<_}
 use mathlib.Core.Path.{_≡_, refl, ap, sym, subst, _∙_}
-use mathlib.Core.Logic.{_≢_, ⊎-elim}
+use mathlib.Core.Logic.{⊎-elim}
 use mathlib.Core.List.{List, [], _∷_}
 use mathlib.Core.Option.{Option, none, some}
 use mathlib.Core.Bool.{Bool, true, false, cond, _||_}
@@ -13,9 +13,9 @@ use Rattle.types.specs.Places.{isSeatedOn, keptOn}
 use Rattle.types.specs.declared.Place.{Place}
 use Rattle.rules.specs.Lists.{_or_}
 use Rattle.rules.specs.Table.{Table, at, keysOf}
-use Rattle.rules.specs.Board.{Seat, Reshape, Board, mostMachines, mostMembers, mostSeats, onReshapes}
+use Rattle.rules.specs.Board.{Seat, Reshape, Board, mostMachines, mostSeats, onReshapes}
 use Rattle.rules.specs.WellFormed.{isShard, wellFormed}
-use Rattle.rules.specs.Moves.{membersOf, place, join, mayJoin, putOn, forAll}
+use Rattle.rules.specs.Moves.{place, join, mayJoin, putOn, forAll}
 use Rattle.rules.specs.Cut.{rejoin}
 use Rattle.rules.proofs.Tests.{by-cases, or-cases}
 use Rattle.rules.proofs.Turns.{forAll-keeps}
@@ -31,7 +31,8 @@ use Rattle.board.proofs.Keyed.{machines-rise}
 use Rattle.pool.proofs.Pools.{keys-none, keys-here}
 use Rattle.rows.specs.Found.{Found}
 use Rattle.arriving.specs.Coming.{reshapeIn, MayCome}
-use Rattle.arriving.proofs.Comes.{joins-may, not-both, comes-from, put-as}
+use Rattle.arriving.proofs.Comes.{joins-may, not-both, comes-from, put-as, put-elsewhere}
+use Rattle.arriving.proofs.Lists.{forAll-elsewhere}
 
 -- ---- one keeper
 
@@ -101,16 +102,12 @@ module _ (t : Shard) (keepers : Table Seat) where
   all-reshapes l b = forAll-keeps (Same b) (rejoin t keepers) (λ x d e. rejoin-reshapes x d ∙ e) l b refl
 
   module _ (f : Table Reshape → Table Reshape) where
-    put-elsewhere : (move : Place → Place) (x : Id) (b : Board) → putOn t move x (onReshapes f b) ≡ onReshapes f (putOn t move x b)
-    unfolding putOn join place membersOf
-    put-elsewhere move x b = refl
-
     rejoin-elsewhere : (x : Id) (b : Board) → rejoin t keepers x (onReshapes f b) ≡ onReshapes f (rejoin t keepers x b)
     unfolding rejoin
     rejoin-elsewhere x b = go (at x (b .machines))
       where
         one : (q : Bool) (move : Place → Place) → cond q (putOn t move x (onReshapes f b)) (onReshapes f b) ≡ onReshapes f (cond q (putOn t move x b) b)
-        one true move = put-elsewhere move x b
+        one true move = put-elsewhere t f move x b
         one false move = refl
 
         look : (p : Place) (o : Option Seat) → elim o [ none ↦ onReshapes f b | some q ↦ cond (onChild t p) (putOn t (keptOn t (q .ready)) x (onReshapes f b)) (onReshapes f b) ]
@@ -130,9 +127,7 @@ module _ (t : Shard) (keepers : Table Seat) where
 
     -- the order does not matter: the row may go before or after
     pub all-elsewhere : (l : List Id) (b : Board) → forAll (rejoin t keepers) l (onReshapes f b) ≡ onReshapes f (forAll (rejoin t keepers) l b)
-    unfolding forAll
-    all-elsewhere [] b = refl
-    all-elsewhere (x ∷ l) b = ap (forAll (rejoin t keepers) l) (rejoin-elsewhere x b) ∙ all-elsewhere l (rejoin t keepers x b)
+    all-elsewhere = forAll-elsewhere f (rejoin t keepers) rejoin-elsewhere
 
 -- ---- k keepers have had their turn
 

@@ -80,7 +80,10 @@ fn cut_merge(board: &mut [u64], target: ShardId) -> Turned
     if !recasting::merge_fits(board, target) {
         return Turned::Refused(Answer::NoRoom);
     }
-    let height = larger(bounds::height_at(board, left), bounds::height_at(board, right));
+    let height = larger(
+        bounds::height_at(board, left),
+        bounds::height_at(board, right),
+    );
     cut_at(board, i, target, height);
     Turned::Done(1, Reader::start())
 }

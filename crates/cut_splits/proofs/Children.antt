@@ -14,10 +14,10 @@ use lib.Seq.{drop-cons}
 use Rattle.types.specs.Numbers.{Shard, Id}
 use Rattle.types.specs.Places.{isSeatedOn, isObserving, movedTo}
 use Rattle.types.specs.declared.Place.{Place}
-use Rattle.rules.specs.Table.{Entry, Table, at, keysWhere}
+use Rattle.rules.specs.Table.{Entry, Table, at}
 use Rattle.rules.specs.Board.{Seat, Reshape, Board, mostMembers, mostSeats, mostHalf, onReshapes, epochOf}
 use Rattle.rules.specs.WellFormed.{isShard, isTarget}
-use Rattle.rules.specs.Moves.{membersOf, place, join, putOn, forAll}
+use Rattle.rules.specs.Moves.{place, join, putOn, forAll}
 use Rattle.rules.specs.Cut.{settle, seatedBy, cohortFor, settleChild}
 use Rattle.rules.proofs.Tests.{by-cases}
 use Rattle.rules.proofs.Turns.{forAll-keeps}
@@ -29,8 +29,8 @@ use Rattle.board.specs.Held.{Holds, noReshape, noSeat}
 use Rattle.board.proofs.Fitting.{held-as}
 use Rattle.pool.proofs.Pools.{keys-none, keys-here, keys-past}
 use Rattle.arriving.specs.Coming.{reshapeIn, MayCome}
-use Rattle.arriving.proofs.Comes.{joins-may}
-use Rattle.arriving.proofs.Lists.{forAll-append}
+use Rattle.arriving.proofs.Comes.{joins-may, put-elsewhere}
+use Rattle.arriving.proofs.Lists.{forAll-append, forAll-elsewhere}
 use Rattle.cut_splits.specs.Settled.{childOf, halfOf, seatFor, turnOf}
 
 -- ---- in which order
@@ -131,16 +131,12 @@ module _ (t c : Shard) (seats : Table Seat) where
       go (some p) = by-cases (Same b) (isSeatedOn t p) _ _ (λ e. refl) (λ e. look p (at x seats))
 
   module _ (f : Table Reshape → Table Reshape) where
-    put-elsewhere : (move : Place → Place) (x : Id) (b : Board) → putOn c move x (onReshapes f b) ≡ onReshapes f (putOn c move x b)
-    unfolding putOn join place membersOf
-    put-elsewhere move x b = refl
-
     settle-elsewhere : (x : Id) (b : Board) → settle t c seats x (onReshapes f b) ≡ onReshapes f (settle t c seats x b)
     unfolding settle
     settle-elsewhere x b = go (at x (b .machines))
       where
         one : (q : Bool) (move : Place → Place) (u v : Board) → u ≡ onReshapes f v → cond q (putOn c move x (onReshapes f b)) u ≡ onReshapes f (cond q (putOn c move x b) v)
-        one true move u v e = put-elsewhere move x b
+        one true move u v e = put-elsewhere c f move x b
         one false move u v e = e
 
         look : (p : Place) (o : Option Seat) → elim o [ none ↦ onReshapes f b | some q ↦ cond (isObserving p) (putOn c (seatedBy c q (epochOf b)) x (onReshapes f b)) (onReshapes f b) ]
@@ -162,15 +158,10 @@ module _ (t c : Shard) (seats : Table Seat) where
         go none = refl
         go (some p) = one (isSeatedOn t p) (movedTo c) _ _ (look p (at x seats))
 
-    all-elsewhere : (l : List Id) (b : Board) → forAll (settle t c seats) l (onReshapes f b) ≡ onReshapes f (forAll (settle t c seats) l b)
-    unfolding forAll
-    all-elsewhere [] b = refl
-    all-elsewhere (x ∷ l) b = ap (forAll (settle t c seats) l) (settle-elsewhere x b) ∙ all-elsewhere l (settle t c seats x b)
-
     -- the order does not matter: the row may go before or after
     pub child-elsewhere : (half : List Id) (b : Board) → settleChild t c half seats (onReshapes f b) ≡ onReshapes f (settleChild t c half seats b)
     unfolding settleChild
-    child-elsewhere half b = all-elsewhere _ b
+    child-elsewhere half b = forAll-elsewhere f (settle t c seats) settle-elsewhere _ b
 
   pub child-reshapes : (half : List Id) (b : Board) → Same b (settleChild t c half seats b)
   unfolding settleChild

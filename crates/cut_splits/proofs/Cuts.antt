@@ -1,19 +1,19 @@
 -- A shard's turn: its faults in order, and the board of the cut, one piece after another.
-use Prim.Native.Nat.{ℕ, _≤_, _<_}
+use Prim.Native.Nat.{ℕ, _<_}
 use mathlib.Core.Path.{_≡_, refl, ap, sym, subst, _∙_}
-use mathlib.Core.List.{List, [], _∷_, _++_}
-use mathlib.Core.Option.{Option, none, some}
-use mathlib.Core.Bool.{Bool, true, false, true≢false}
+use mathlib.Core.List.{List, [], _++_}
+use mathlib.Core.Option.{none, some}
+use mathlib.Core.Bool.{Bool, true, false}
 use native.Mathlib.Omega.{arith}
 use lib.ListN.{length, getD}
-use Rattle.types.specs.Numbers.{Shard, Id, Height}
+use Rattle.types.specs.Numbers.{Shard, Height}
 use Rattle.types.specs.Shards.{leftOf, rightOf}
 use Rattle.types.specs.declared.Answer.the-variants.{NoRecord, NoBoundary, NoRoom}
 use Rattle.types.specs.declared.Outcome.{Outcome}
 use Rattle.rules.specs.Lists.{_and_, every}
 use Rattle.rules.specs.Table.{Table, at, stands, remove, keysOf}
 use Rattle.rules.specs.Board.{split, Reshape, Board, onReshapes}
-use Rattle.rules.specs.WellFormed.{isTarget, isWord, wellFormed}
+use Rattle.rules.specs.WellFormed.{isWord, wellFormed}
 use Rattle.rules.specs.Moves.{boundsStand, heightOf}
 use Rattle.rules.specs.Turns.{finished, refused, checked, batch}
 use Rattle.rules.specs.Cut.{recast, fits, cutFaults, settleChild, cutSplitOf, cutSplit, cutSplits, due}
@@ -22,9 +22,9 @@ use Rattle.rules.proofs.KeptBoard.{family, Fit, Good, good-of, fit-at}
 use Rattle.rules.proofs.KeptCut.{fresh-left, fresh-right, Settling, good-settleChild, cut-split-finishes}
 use Rattle.tables.specs.Rows.{removeAt}
 use Rattle.tables.proofs.Keys.{at-is, remove-is-removeAt}
-use Rattle.board.specs.Held.{Holds, noBoundary, noReshape}
+use Rattle.board.specs.Held.{Holds, noReshape}
 use Rattle.board.proofs.Fitting.{held-as}
-use Rattle.board.proofs.Keyed.{bounds-rise, reshapes-rise}
+use Rattle.board.proofs.Keyed.{reshapes-rise}
 use Rattle.sampling.specs.declared.Reader.{Reader}
 use Rattle.pool.specs.Told.{Finished}
 use Rattle.steps.specs.Inner.{Step}
@@ -53,13 +53,6 @@ due-are b = refl
 -- ---- no split there
 
 module _ (b : Board) (ok : wellFormed b ≡ true) (t : Shard) where
-  pub no-target : isTarget t ≡ false → at t (b .reshapes) ≡ none
-  no-target n = go (at t (b .reshapes)) refl
-    where
-      go : (o : Option Reshape) → at t (b .reshapes) ≡ o → o ≡ none
-      go none e = refl
-      go (some r) e = absurd (true≢false (sym (fit-at (good-of b ok) t r e .target) ∙ n))
-
   pub nothing-due : at t (b .reshapes) ≡ none → (after : List ℕ) → Holds after b → (left : Reader) → left .at ≡ 0 → Finished [] after (cutSplit t [] b) 0 left
   unfolding cutSplit
   nothing-due q after h left z = record { board = b; read = omega (arith, z); turn = rw (q, cutSplit, z); holds = h }
@@ -100,10 +93,6 @@ module _ (b : Board) (ok : wellFormed b ≡ true) (t : Shard) where
         pub cuts : fits (recast split t (heightOf t b) b) ≡ true → cutSplit t [] b ≡ finished 1 [] (cutBoard t r (heightOf t b) b)
         unfolding cutSplitOf cutFaults checked boundsStand every _and_
         cuts y = turn-is ∙ rw (s, k, y)
-
-    pub height-is : (v : ℕ) → v < length (b .bounds) → getD (b .bounds) v noBoundary .key ≡ t → heightOf t b ≡ getD (b .bounds) v noBoundary .val .height
-    unfolding heightOf
-    height-is v m k = rw (at-is (b .bounds) (bounds-rise b ok) t v noBoundary m k, heightOf)
 
     -- ---- the board of the cut
 

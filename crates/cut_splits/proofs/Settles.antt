@@ -1,11 +1,11 @@
 -- One machine settled, as the code has it: each way out.
 use Prim.Native.Nat.{ℕ, _≤_, _<_}
-use mathlib.Core.Path.{_≡_, refl, sym, _∙_}
+use mathlib.Core.Path.{_≡_, refl}
 use mathlib.Core.Logic.{_≢_}
 use mathlib.Core.List.{List, [], _∷_}
-use mathlib.Core.Option.{none, some}
+use mathlib.Core.Option.{some}
 use mathlib.Core.Bool.{true, false, false≢true}
-use lib.ListN.{length, getD}
+use lib.ListN.{getD}
 use Rattle.types.specs.Numbers.{Shard, Id}
 use Rattle.types.specs.Places.{isSeatedOn, isObserving, movedTo, seatedFromWatch}
 use Rattle.types.specs.declared.Place.{Place}

@@ -18,7 +18,7 @@ ghost use lib.ListN.{length, getD};
 ghost use Rattle.rules.specs.Lists.{every};
 ghost use Rattle.rules.specs.Table.{stands, keysOf};
 ghost use Rattle.rules.specs.Board.{Board, split, mostReshapes, lastTarget};
-ghost use Rattle.rules.specs.WellFormed.{isTarget, isWord, wellFormed};
+ghost use Rattle.rules.specs.WellFormed.{isWord, wellFormed};
 ghost use Rattle.rules.specs.Cut.{recast, fits, cutSplit, cutSplits};
 ghost use Rattle.board.specs.Layout.{boardSize};
 ghost use Rattle.board.specs.Held.{Holds, noReshape};

@@ -1,11 +1,10 @@
 -- The tables of a family, one shard after another: each board on the way is good, and the words hold it.
 use Prim.Native.Nat.{ℕ, _≤_, _<_}
 use mathlib.Core.Path.{_≡_, refl, ap, sym}
-use mathlib.Core.List.{List, [], _∷_}
-use mathlib.Core.Option.{none}
+use mathlib.Core.List.{List, []}
 use mathlib.Core.Bool.{true}
 use native.Mathlib.Omega.{arith}
-use lib.ListN.{length, getD, set}
+use lib.ListN.{length, set}
 use Rattle.types.specs.Numbers.{Shard, Id, Height}
 use Rattle.types.specs.Shards.{leftOf, rightOf}
 use Rattle.rules.specs.Table.{Entry, entry, Table, at, put, remove}
@@ -17,7 +16,7 @@ use Rattle.rules.proofs.Tests.{and-parts, and-joins, le-of, of-le}
 use Rattle.rules.proofs.Tables.{From, From-put, From-remove}
 use Rattle.rules.proofs.KeptTables.{Rows-within, Rows-put, Rows-remove}
 use Rattle.rules.proofs.KeptRotations.{Rota-dropRotations}
-use Rattle.rules.proofs.KeptBoard.{Good, good-of, of-good, on-committees, on-bounds, on-rotations}
+use Rattle.rules.proofs.KeptBoard.{Good, on-committees, on-bounds, on-rotations}
 use Rattle.rules.proofs.KeptCut.{new-committee, new-bound, good-recast}
 use Rattle.tables.specs.Rows.{placeOf, keyOf, insertAt, removeAt}
 use Rattle.tables.proofs.Keys.{first-most, remove-none, remove-is-removeAt, put-is-set, put-is-insertAt}

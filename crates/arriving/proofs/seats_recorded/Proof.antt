@@ -1,4 +1,4 @@
-use Prim.Native.Nat.{ℕ, _-_, _≤_, _<_}
+use Prim.Native.Nat.{_-_, _≤_, _<_}
 use mathlib.Core.Path.{_≡_, refl, ap, sym, _∙_}
 use mathlib.Core.Bool.{true}
 use native.Mathlib.Omega.{arith}
@@ -15,12 +15,6 @@ use Rattle.arriving.proofs.Comes.{row-fit}
 use Rattle.arriving.proofs.Lists.{known, every-ended, one-unknown, one-known}
 use Rattle.arriving.proofs.seats_recorded.Statement.{statement}
 use Rattle.arriving.proofs.seats_recorded.Tie as tie
-use Rattle.arriving.proofs.seats_recorded.Reads as reads
-use Rattle.arriving.proofs.seats_recorded.Lts as lts
-use Rattle.reshapes.proofs.seats.at.Reads as at-reads
-use Rattle.reshapes.proofs.seats.count.Reads as count-reads
-use Rattle.rows.proofs.machine_row.Reads as machine-row-reads
-use Rattle.steps.proofs.rows_within.Reads as rows-within-reads
 
 abbrev Inv-loop : tie.InvT-loop
 Inv-loop board i n k₀ k = (k ≤ n) × (n ≤ mostSeats)
@@ -30,15 +24,6 @@ Inv-loop board i n k₀ k = (k ≤ n) × (n ≤ mostSeats)
 abbrev μ-loop : tie.MeasureT-loop
 μ-loop board i n k₀ k = n - k
 
--- src/lib.rt:39:32
-count-requires : tie.Need-count-requires Inv-loop μ-loop
-count-requires c κs = search needs
-
--- src/lib.rt:39:9
-rows-within-requires : tie.Need-rows-within-requires Inv-loop μ-loop
-rows-within-requires c κs = search needs
-
--- src/lib.rt:41:5
 loop-holds : tie.Need-loop-holds Inv-loop μ-loop
 loop-holds c = (
   omega arith,
@@ -48,15 +33,6 @@ loop-holds c = (
       (c .rows-within .ensures .1 (rw n (row-fit b ok _ l .seats .room)) ∙ n, refl),
 )
 
--- src/lib.rt:42:13
-at-requires : tie.Need-at-requires Inv-loop μ-loop
-at-requires c κs = search needs
-
--- src/lib.rt:43:29
-machine-row-requires : tie.Need-machine-row-requires Inv-loop μ-loop
-machine-row-requires c κs = search needs
-
--- src/lib.rt:44:13
 returns : tie.Need-returns Inv-loop μ-loop
 unfolding keysOf
 returns c = λ b h ok l.
@@ -67,15 +43,6 @@ returns c = λ b h ok l.
     let i = ap (λ (e : Entry Seat). e .key) (c .before .before .at .ensures b h l m) in
     one-unknown b ok _ _ _ _ _ (keys-here (λ v. true) seats (a .k) noSeat m refl) i _ (c .before .machine-row .ensures b h ok) (t .1) (c .if1 .taken)
 
--- src/lib.rt:46:9
-add-k : tie.Need-add-k Inv-loop μ-loop
-add-k c = search needs
-
--- src/lib.rt:41:5
-loop-less : tie.Need-loop-less Inv-loop μ-loop
-loop-less c = search needs
-
--- src/lib.rt:41:5
 loop-again : tie.Need-loop-again Inv-loop μ-loop
 unfolding keysOf
 loop-again c = let a = c .before .before .before .before .loop in (
@@ -89,7 +56,6 @@ loop-again c = let a = c .before .before .before .before .loop in (
       (t .0, one-known b ok _ _ _ _ _ (keys-here (λ v. true) seats (a .k) noSeat m refl) i _ (c .before .machine-row .ensures b h ok) (t .1) (c .if1 .left)),
 )
 
--- src/lib.rt:34:1
 returns-2 : tie.Need-returns-2 Inv-loop μ-loop
 unfolding keysOf
 returns-2 c = λ b h ok l.
@@ -104,13 +70,13 @@ seats-recorded-spec =
     (tie.spec
     Inv-loop
     μ-loop
-    count-requires
-    rows-within-requires
+    (λ c κs. search needs)
+    (λ c κs. search needs)
     loop-holds
-    at-requires
-    machine-row-requires
+    (λ c κs. search needs)
+    (λ c κs. search needs)
     returns
-    add-k
-    loop-less
+    (λ c. search needs)
+    (λ c. search needs)
     loop-again
     returns-2)

@@ -1,14 +1,10 @@
 use borrow.Author.Tests.{le-leb, lt-leb}
 use Rattle.cut_merges.proofs.larger.Statement.{statement}
 use Rattle.cut_merges.proofs.larger.Tie as tie
-use Rattle.cut_merges.proofs.larger.Reads as reads
-use Rattle.cut_merges.proofs.larger.Lts as lts
 
--- src/lib.rt:38:9
 returns : tie.Need-returns
 returns c = rw (le-leb _ _ (c .if1 .taken))
 
--- src/lib.rt:34:1
 returns-2 : tie.Need-returns-2
 returns-2 c = rw (lt-leb _ _ (c .if1 .left))
 

@@ -1,5 +1,5 @@
-use Prim.Native.Nat.{ℕ, _-_, _≤_, _<_}
-use mathlib.Core.Path.{_≡_, refl, sym, _∙_}
+use Prim.Native.Nat.{_-_, _≤_}
+use mathlib.Core.Path.{_≡_, refl, _∙_}
 use mathlib.Core.List.{[]}
 use mathlib.Core.Bool.{true}
 use native.Mathlib.Omega.{arith}
@@ -16,11 +16,6 @@ use Rattle.arriving.proofs.Batch.{set-out, all-done, one-done, one-refused}
 use Rattle.cut_splits.proofs.Cuts.{turn-finishes, as-step, due-are}
 use Rattle.cut_splits.proofs.apply_scheduled_splits_held.Statement.{statement}
 use Rattle.cut_splits.proofs.apply_scheduled_splits_held.Tie as tie
-use Rattle.cut_splits.proofs.apply_scheduled_splits_held.Reads as reads
-use Rattle.cut_splits.proofs.apply_scheduled_splits_held.Lts as lts
-use Rattle.batches.proofs.targets.Reads as targets-reads
-use Rattle.cut_splits.proofs.cut_split.Reads as cut-split-reads
-use Rattle.steps.proofs.done.Reads as done-reads
 
 abbrev Inv-loop : tie.InvT-loop
 Inv-loop board₀ shards n handled₀ i₀ board handled i = (i ≤ n) × (n ≤ mostReshapes) × (handled ≤ i) × (length board ≡ length board₀) × (length shards ≡ mostReshapes)
@@ -29,15 +24,9 @@ Inv-loop board₀ shards n handled₀ i₀ board handled i = (i ≤ n) × (n ≤
 abbrev μ-loop : tie.MeasureT-loop
 μ-loop board₀ shards n handled₀ i₀ board handled i = n - i
 
--- src/lib.rt:96:55
 slice-aggregate-targets : tie.Need-slice-aggregate-targets Inv-loop μ-loop
 slice-aggregate-targets c = refl
 
--- src/lib.rt:96:9
-targets-requires : tie.Need-targets-requires Inv-loop μ-loop
-targets-requires c κs = search needs
-
--- src/lib.rt:99:5
 loop-holds : tie.Need-loop-holds Inv-loop μ-loop
 loop-holds c = (
   omega arith,
@@ -48,50 +37,24 @@ loop-holds c = (
   λ b h ok. (c .before .targets .ensures .2 b h ∙ due-are b, set-out cutSplit reads-none turn-finishes (due split b) b _ h ok),
 )
 
--- src/lib.rt:100:47
-mul-t17 : tie.Need-mul-t17 Inv-loop μ-loop
-mul-t17 c = search needs
-
--- src/lib.rt:100:47
 array-read-t20 : tie.Need-array-read-t20 Inv-loop μ-loop
 array-read-t20 c = omega (arith, c .before .before .loop .inv .1, c .before .loop-test .taken)
 
--- src/lib.rt:100:13
 cut-split-requires : tie.Need-cut-split-requires Inv-loop μ-loop
 cut-split-requires c κs = c .before .before .loop .inv .3 ∙ c .before .before .before .before .before .before .before .before .pre
 
--- src/lib.rt:102:26
-enum-known-turned : tie.Need-enum-known-turned Inv-loop μ-loop
-enum-known-turned c = search needs
-
--- src/lib.rt:103:17
 add-handled : tie.Need-add-handled Inv-loop μ-loop
 add-handled c = let p = rw (c .before .turned .given .1) at (c .before .before .before .before .before .cut-split .ensures .0) in omega (arith, p .0, c .before .before .before .before .before .before .before .before .loop .inv .2, c .before .before .before .before .before .before .before .before .loop .inv .1, c .before .before .before .before .before .before .before .loop-test .taken)
 
--- src/lib.rt:105:29
-enum-known-turned-2 : tie.Need-enum-known-turned-2 Inv-loop μ-loop
-enum-known-turned-2 c = search needs
-
--- src/lib.rt:106:17
 same-length : tie.Need-same-length Inv-loop μ-loop
 same-length c = c .before .before .before .before .before .cut-split .kept .0 ∙ c .before .before .before .before .before .before .before .before .loop .inv .3
 
--- src/lib.rt:106:17
 returns : tie.Need-returns Inv-loop μ-loop
 returns c = λ b h ok.
     let a = c .before .before .before .before .before .before .before .before .loop in
     let t = a .inv .5 b h ok in
     as-step b _ _ (one-refused cutSplit reads-none turn-finishes (due split b) b _ _ (omega (arith, a .inv .1, a .inv .4)) (t .0) _ _ _ (t .1) (c .before .before .before .before .before .before .before .loop-test .taken) _ _ (rw (c .before .turned2 .given .1) at (c .before .before .before .before .before .cut-split .ensures .1)))
 
--- src/lib.rt:113:9
-add-i : tie.Need-add-i Inv-loop μ-loop
-add-i c = search needs
-
--- src/lib.rt:99:5
-loop-less : tie.Need-loop-less Inv-loop μ-loop
-loop-less c = search needs
-
--- src/lib.rt:99:5
 loop-again : tie.Need-loop-again Inv-loop μ-loop
 loop-again c = let a = c .before .before .before .before .before .before .before .before .loop in
     let p = rw (c .before .turned .given .1) at (c .before .before .before .before .before .cut-split .ensures .0) in (
@@ -105,15 +68,9 @@ loop-again c = let a = c .before .before .before .before .before .before .before
           (t .0, one-done cutSplit reads-none turn-finishes (due split b) b _ _ (omega (arith, a .inv .1, a .inv .4)) (t .0) _ _ _ (t .1) (c .before .before .before .before .before .before .before .loop-test .taken) _ _ _ (p .1) (rw (c .before .turned .given .1) at (c .before .before .before .before .before .cut-split .ensures .1))),
     )
 
--- src/lib.rt:115:5
-done-requires : tie.Need-done-requires Inv-loop μ-loop
-done-requires c κs = search needs
-
--- src/lib.rt:91:1
 same-length-2 : tie.Need-same-length-2 Inv-loop μ-loop
 same-length-2 c = c .before .before .loop .inv .3
 
--- src/lib.rt:91:1
 returns-2 : tie.Need-returns-2 Inv-loop μ-loop
 returns-2 c = λ b h ok.
     let a = c .before .before .loop in
@@ -127,19 +84,19 @@ apply-scheduled-splits-held-spec =
     Inv-loop
     μ-loop
     slice-aggregate-targets
-    targets-requires
+    (λ c κs. search needs)
     loop-holds
-    mul-t17
+    (λ c. search needs)
     array-read-t20
     cut-split-requires
-    enum-known-turned
+    (λ c. search needs)
     add-handled
-    enum-known-turned-2
+    (λ c. search needs)
     same-length
     returns
-    add-i
-    loop-less
+    (λ c. search needs)
+    (λ c. search needs)
     loop-again
-    done-requires
+    (λ c κs. search needs)
     same-length-2
     returns-2)

@@ -8,65 +8,24 @@ use Rattle.rules.specs.Board.{split}
 use Rattle.rules.specs.Moves.{heightOf}
 use Rattle.rules.specs.Turns.{finished}
 use Rattle.rules.specs.Cut.{recast, fits}
-use Rattle.rules.proofs.Tests.{and-parts, le-of}
 use Rattle.rules.proofs.KeptBoard.{good-of}
 use Rattle.rules.proofs.KeptCut.{height-word}
 use Rattle.board.proofs.Keyed.{bounds-rise}
 use Rattle.recasting.proofs.Sizes.{found-stands, missing-stands}
 use Rattle.arriving.specs.Coming.{reshapeIn}
+use Rattle.arriving.proofs.Comes.{target-within, no-target, height-is}
 use Rattle.cut_splits.specs.Settled.{cutBoard}
-use Rattle.cut_splits.proofs.Cuts.{no-target, nothing-due, no-boundary, no-record, no-room, cuts, height-is}
+use Rattle.cut_splits.proofs.Cuts.{nothing-due, no-boundary, no-record, no-room, cuts}
 use borrow.Author.Needs.{needs}
 use Rattle.cut_splits.proofs.cut_split.Statement.{statement}
 use Rattle.cut_splits.proofs.cut_split.Tie as tie
-use Rattle.cut_splits.proofs.cut_split.Reads as reads
-use Rattle.cut_splits.proofs.cut_split.Lts as lts
-use Rattle.cut_splits.proofs.all_recorded.Reads as all-recorded-reads
-use Rattle.cut_splits.proofs.cut_at.Reads as cut-at-reads
-use Rattle.recasting.proofs.split_fits.Reads as split-fits-reads
-use Rattle.rows.proofs.bound_row.Reads as bound-row-reads
-use Rattle.rows.proofs.is_target.Reads as is-target-reads
-use Rattle.rows.proofs.reshape_row.Reads as reshape-row-reads
-use Rattle.sampling.proofs.Reader.start.Reads as start-reads
-use Rattle.shards.proofs.bounds.height_at.Reads as height-at-reads
 
--- src/lib.rt:68:9
-is-target-requires : tie.Need-is-target-requires
-is-target-requires c κs = search needs
-
--- src/lib.rt:69:32
-start-requires : tie.Need-start-requires
-start-requires c κs = search needs
-
--- src/lib.rt:69:9
 returns : tie.Need-returns
 returns c = ((omega arith, c .start .ensures), λ b h ok. nothing-due b ok _ (no-target b ok _ (sym (c .before .before .is-target .ensures) ∙ not-true _ (c .before .if1 .taken))) _ h _ (c .start .ensures))
 
--- src/lib.rt:71:9
-reshape-row-requires : tie.Need-reshape-row-requires
-reshape-row-requires c κs = search needs
-
--- src/lib.rt:73:32
-start-requires-2 : tie.Need-start-requires-2
-start-requires-2 c κs = search needs
-
--- src/lib.rt:73:9
-same-length : tie.Need-same-length
-same-length c = search needs
-
--- src/lib.rt:73:9
 returns-2 : tie.Need-returns-2
 returns-2 c = ((omega arith, c .start2 .ensures), λ b h ok. nothing-due b ok _ (c .before .before .reshape-row .ensures b h ok .missing (c .before .if2 .taken)) _ h _ (c .start2 .ensures))
 
--- src/lib.rt:75:9
-bound-row-requires : tie.Need-bound-row-requires
-bound-row-requires c κs = search needs
-
--- src/lib.rt:77:9
-same-length-2 : tie.Need-same-length-2
-same-length-2 c = search needs
-
--- src/lib.rt:77:9
 returns-3 : tie.Need-returns-3
 returns-3 c = (
   tt,
@@ -76,15 +35,6 @@ returns-3 c = (
       (no-boundary b ok _ _ (f .inside i) (f .named i) (missing-stands (c .before .bound-row .ensures b h ok) (c .if3 .taken)), h),
 )
 
--- src/lib.rt:79:9
-all-recorded-requires : tie.Need-all-recorded-requires
-all-recorded-requires c κs = search needs
-
--- src/lib.rt:80:9
-same-length-3 : tie.Need-same-length-3
-same-length-3 c = search needs
-
--- src/lib.rt:80:9
 returns-4 : tie.Need-returns-4
 returns-4 c = (
   tt,
@@ -95,15 +45,9 @@ returns-4 c = (
       (no-record b ok _ _ (f .inside i) (f .named i) v (sym (c .before .all-recorded .ensures b h ok (f .inside i)) ∙ not-true _ (c .if4 .taken)), h),
 )
 
--- src/lib.rt:82:9
 split-fits-requires : tie.Need-split-fits-requires
-split-fits-requires c κs = (c .before .before .before .before .before .before .before .before .before .before .before .before .before .pre, le-of _ _ (and-parts _ _ (sym (c .before .before .before .before .before .before .before .before .before .before .before .is-target .ensures) ∙ not-false _ (c .before .before .before .before .before .before .before .before .before .before .if1 .left)) .1))
+split-fits-requires c κs = (c .before .before .before .before .before .before .before .before .before .before .before .before .before .pre, target-within _ (sym (c .before .before .before .before .before .before .before .before .before .before .before .is-target .ensures) ∙ not-false _ (c .before .before .before .before .before .before .before .before .before .before .if1 .left)))
 
--- src/lib.rt:83:9
-same-length-4 : tie.Need-same-length-4
-same-length-4 c = search needs
-
--- src/lib.rt:83:9
 returns-5 : tie.Need-returns-5
 returns-5 c = (
   tt,
@@ -117,23 +61,9 @@ returns-5 c = (
       (no-room b ok _ _ (f .inside i) (f .named i) v k (sym (c .before .split-fits .ensures b h ok tg (heightOf t b)) ∙ not-true _ (c .if5 .taken)), h),
 )
 
--- src/lib.rt:85:9
-height-at-requires : tie.Need-height-at-requires
-height-at-requires c κs = search needs
-
--- src/lib.rt:86:5
 cut-at-requires : tie.Need-cut-at-requires
-cut-at-requires c κs = (c .before .before .before .before .before .before .before .before .before .before .before .before .before .before .before .before .before .before .pre, c .before .before .before .before .before .before .before .before .before .before .before .before .if2 .left, le-of _ _ (and-parts _ _ (sym (c .before .before .before .before .before .before .before .before .before .before .before .before .before .before .before .before .is-target .ensures) ∙ not-false _ (c .before .before .before .before .before .before .before .before .before .before .before .before .before .before .before .if1 .left)) .1))
+cut-at-requires c κs = (c .before .before .before .before .before .before .before .before .before .before .before .before .before .before .before .before .before .before .pre, c .before .before .before .before .before .before .before .before .before .before .before .before .if2 .left, target-within _ (sym (c .before .before .before .before .before .before .before .before .before .before .before .before .before .before .before .before .is-target .ensures) ∙ not-false _ (c .before .before .before .before .before .before .before .before .before .before .before .before .before .before .before .if1 .left)))
 
--- src/lib.rt:87:21
-start-requires-3 : tie.Need-start-requires-3
-start-requires-3 c κs = search needs
-
--- src/lib.rt:64:1
-same-length-5 : tie.Need-same-length-5
-same-length-5 c = search needs
-
--- src/lib.rt:64:1
 returns-6 : tie.Need-returns-6
 returns-6 c = (
   (omega arith, c .start3 .ensures),
@@ -146,7 +76,7 @@ returns-6 c = (
       let k = sym (c .before .before .before .before .before .before .before .before .before .before .before .all-recorded .ensures b h ok (f .inside i)) ∙ not-false _ (c .before .before .before .before .before .before .before .before .before .before .if4 .left) in
       let tg = sym (c .before .before .before .before .before .before .before .before .before .before .before .before .before .before .before .before .before .before .before .before .is-target .ensures) ∙ not-false _ (c .before .before .before .before .before .before .before .before .before .before .before .before .before .before .before .before .before .before .before .if1 .left) in
       let r = reshapeIn (c .before .before .before .before .before .before .before .before .before .before .before .before .before .before .before .before .before .reshape-row .result) b in
-      let high = height-is b ok t _ (f .inside i) (f .named i) _ (g .inside j) (g .named j) ∙ sym (c .before .before .before .before .before .height-at .ensures b h (g .inside j)) in
+      let high = height-is b ok t _ (g .inside j) (g .named j) ∙ sym (c .before .before .before .before .before .height-at .ensures b h (g .inside j)) in
       let room : (n : Height) → fits (recast split t n b) ≡ true = λ n. sym (c .before .before .before .before .before .before .before .before .split-fits .ensures b h ok tg n) ∙ not-false _ (c .before .before .before .before .before .before .before .if5 .left) in
       record {
         board = cutBoard t r (c .before .before .before .before .before .height-at .result .0) b;
@@ -160,24 +90,24 @@ pub cut-split-spec : {M : Type 1} → statement M
 cut-split-spec =
     tie.close
     (tie.spec
-    is-target-requires
-    start-requires
+    (λ c κs. search needs)
+    (λ c κs. search needs)
     returns
-    reshape-row-requires
-    start-requires-2
-    same-length
+    (λ c κs. search needs)
+    (λ c κs. search needs)
+    (λ c. search needs)
     returns-2
-    bound-row-requires
-    same-length-2
+    (λ c κs. search needs)
+    (λ c. search needs)
     returns-3
-    all-recorded-requires
-    same-length-3
+    (λ c κs. search needs)
+    (λ c. search needs)
     returns-4
     split-fits-requires
-    same-length-4
+    (λ c. search needs)
     returns-5
-    height-at-requires
+    (λ c κs. search needs)
     cut-at-requires
-    start-requires-3
-    same-length-5
+    (λ c κs. search needs)
+    (λ c. search needs)
     returns-6)

@@ -1,4 +1,4 @@
-use Prim.Native.Nat.{ℕ, _-_, _≤_, _<_}
+use Prim.Native.Nat.{_-_, _≤_, _<_}
 use mathlib.Core.Path.{_≡_, refl, _∙_}
 use mathlib.Core.List.{[]}
 use mathlib.Core.Option.{some}
@@ -16,11 +16,6 @@ use Rattle.arriving.proofs.Comes.{row-fit}
 use Rattle.cut_merges.proofs.Rejoins.{Joined, none-joined, row-stays, seats-stay, may-come, one-joined, all-joined}
 use Rattle.cut_merges.proofs.keepers.rejoin_all.Statement.{statement}
 use Rattle.cut_merges.proofs.keepers.rejoin_all.Tie as tie
-use Rattle.cut_merges.proofs.keepers.rejoin_all.Reads as reads
-use Rattle.cut_merges.proofs.keepers.rejoin_all.Lts as lts
-use Rattle.cut_merges.proofs.keepers.rejoin.Reads as rejoin-reads
-use Rattle.reshapes.proofs.seats.count.Reads as count-reads
-use Rattle.steps.proofs.rows_within.Reads as rows-within-reads
 
 abbrev Inv-loop : tie.InvT-loop
 Inv-loop board₀ i target n k₀ board k = (k ≤ n) × (n ≤ mostSeats) × (length board ≡ length board₀)
@@ -30,15 +25,6 @@ Inv-loop board₀ i target n k₀ board k = (k ≤ n) × (n ≤ mostSeats) × (l
 abbrev μ-loop : tie.MeasureT-loop
 μ-loop board₀ i target n k₀ board k = n - k
 
--- src/keepers.rt:52:32
-count-requires : tie.Need-count-requires Inv-loop μ-loop
-count-requires c κs = search needs
-
--- src/keepers.rt:52:9
-rows-within-requires : tie.Need-rows-within-requires Inv-loop μ-loop
-rows-within-requires c κs = search needs
-
--- src/keepers.rt:54:5
 loop-holds : tie.Need-loop-holds Inv-loop μ-loop
 loop-holds c = (
   omega arith,
@@ -50,37 +36,25 @@ loop-holds c = (
       (c .rows-within .ensures .1 (rw n (f .seats .room)) ∙ n, none-joined _ _ b _ h (good-of b ok) (family (c .before .before .before .before .args .target .0) tg .target) e (f .seats .room)),
 )
 
--- src/keepers.rt:55:9
 rejoin-requires : tie.Need-rejoin-requires Inv-loop μ-loop
 rejoin-requires c κs = (c .before .before .loop .inv .2 ∙ c .before .before .before .before .before .before .before .pre .0, c .before .before .before .before .before .before .before .pre .1, c .before .before .before .before .before .before .before .pre .2, omega (arith, c .before .before .loop .inv .1, c .before .loop-test .taken))
 
--- src/keepers.rt:56:9
-add-k : tie.Need-add-k Inv-loop μ-loop
-add-k c = search needs
-
--- src/keepers.rt:54:5
-loop-less : tie.Need-loop-less Inv-loop μ-loop
-loop-less c = search needs
-
--- src/keepers.rt:54:5
 loop-again : tie.Need-loop-again Inv-loop μ-loop
 loop-again c = let a = c .before .before .before .before .before .loop in (
-      omega arith,
-      a .inv .1,
-      c .before .before .rejoin .kept .0 ∙ a .inv .2,
-      λ b h ok l tg e.
-          let g = c .before .before .before .before .before .before .before .before .before .before .args in
-          let t = a .inv .3 b h ok l tg e in
-          let u = t .1 in
-          let q : a .k < length (reshapeIn (g .i) b .seats) = omega (arith, t .0, c .before .before .before .before .loop-test .taken) in
-          (t .0, one-joined (g .target .0) (g .i) b _ _ u q (family (g .target .0) tg .least) _ (c .before .before .rejoin .ensures (u .board) (u .held) (of-good (u .way .good)) (row-stays (g .target .0) (g .i) b _ _ u l) tg (seats-stay (g .target .0) (g .i) b _ _ u q) (may-come (g .target .0) (g .i) b _ _ u q))),
-    )
+  omega arith,
+  a .inv .1,
+  c .before .before .rejoin .kept .0 ∙ a .inv .2,
+  λ b h ok l tg e.
+      let g = c .before .before .before .before .before .before .before .before .before .before .args in
+      let t = a .inv .3 b h ok l tg e in
+      let u = t .1 in
+      let q : a .k < length (reshapeIn (g .i) b .seats) = omega (arith, t .0, c .before .before .before .before .loop-test .taken) in
+      (t .0, one-joined (g .target .0) (g .i) b _ _ u q (family (g .target .0) tg .least) _ (c .before .before .rejoin .ensures (u .board) (u .held) (of-good (u .way .good)) (row-stays (g .target .0) (g .i) b _ _ u l) tg (seats-stay (g .target .0) (g .i) b _ _ u q) (may-come (g .target .0) (g .i) b _ _ u q))),
+)
 
--- src/keepers.rt:46:1
 same-length : tie.Need-same-length Inv-loop μ-loop
 same-length c = c .before .loop .inv .2
 
--- src/keepers.rt:46:1
 returns : tie.Need-returns Inv-loop μ-loop
 returns c = λ b h ok l tg e.
     let t = c .before .loop .inv .3 b h ok l tg e in
@@ -92,12 +66,12 @@ rejoin-all-spec =
     (tie.spec
     Inv-loop
     μ-loop
-    count-requires
-    rows-within-requires
+    (λ c κs. search needs)
+    (λ c κs. search needs)
     loop-holds
     rejoin-requires
-    add-k
-    loop-less
+    (λ c. search needs)
+    (λ c. search needs)
     loop-again
     same-length
     returns)

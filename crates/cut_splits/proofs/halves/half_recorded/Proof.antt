@@ -1,4 +1,4 @@
-use Prim.Native.Nat.{ℕ, _-_, _≤_, _<_}
+use Prim.Native.Nat.{_-_, _≤_, _<_}
 use mathlib.Core.Path.{_≡_, refl, sym, _∙_}
 use mathlib.Core.Bool.{true}
 use native.Mathlib.Omega.{arith}
@@ -15,11 +15,6 @@ use Rattle.arriving.proofs.Lists.{known, every-ended, one-unknown, one-known}
 use Rattle.cut_splits.specs.Settled.{halfOf}
 use Rattle.cut_splits.proofs.halves.half_recorded.Statement.{statement}
 use Rattle.cut_splits.proofs.halves.half_recorded.Tie as tie
-use Rattle.cut_splits.proofs.halves.half_recorded.Reads as reads
-use Rattle.cut_splits.proofs.halves.half_recorded.Lts as lts
-use Rattle.cut_splits.proofs.halves.half_at.Reads as half-at-reads
-use Rattle.cut_splits.proofs.halves.half_count.Reads as half-count-reads
-use Rattle.rows.proofs.machine_row.Reads as machine-row-reads
 
 abbrev Inv-loop : tie.InvT-loop
 Inv-loop board i right n k₀ k = (k ≤ n) × (n ≤ mostHalf)
@@ -29,23 +24,9 @@ Inv-loop board i right n k₀ k = (k ≤ n) × (n ≤ mostHalf)
 abbrev μ-loop : tie.MeasureT-loop
 μ-loop board i right n k₀ k = n - k
 
--- src/halves.rt:45:9
-half-count-requires : tie.Need-half-count-requires Inv-loop μ-loop
-half-count-requires c κs = search needs
-
--- src/halves.rt:47:5
 loop-holds : tie.Need-loop-holds Inv-loop μ-loop
 loop-holds c = (omega arith, c .half-count .ensures .0, λ b h ok l. (c .half-count .ensures .1 b h ok l, refl))
 
--- src/halves.rt:48:54
-half-at-requires : tie.Need-half-at-requires Inv-loop μ-loop
-half-at-requires c κs = search needs
-
--- src/halves.rt:48:29
-machine-row-requires : tie.Need-machine-row-requires Inv-loop μ-loop
-machine-row-requires c κs = search needs
-
--- src/halves.rt:49:13
 returns : tie.Need-returns Inv-loop μ-loop
 returns c = λ b h ok l.
     let a = c .before .before .before .before .loop in
@@ -54,15 +35,6 @@ returns c = λ b h ok l.
     let m : a .k < length half = omega (arith, t .0, c .before .before .before .loop-test .taken) in
     one-unknown b ok _ _ _ _ _ (drop-cons half (a .k) 0 m) (c .before .before .half-at .ensures b h l m) _ (c .before .machine-row .ensures b h ok) (t .1) (c .if1 .taken)
 
--- src/halves.rt:51:9
-add-k : tie.Need-add-k Inv-loop μ-loop
-add-k c = search needs
-
--- src/halves.rt:47:5
-loop-less : tie.Need-loop-less Inv-loop μ-loop
-loop-less c = search needs
-
--- src/halves.rt:47:5
 loop-again : tie.Need-loop-again Inv-loop μ-loop
 loop-again c = let a = c .before .before .before .before .loop in (
   omega arith,
@@ -74,7 +46,6 @@ loop-again c = let a = c .before .before .before .before .loop in (
       (t .0, rw add-one (one-known b ok _ _ _ _ _ (drop-cons half (a .k) 0 m) (c .before .before .half-at .ensures b h l m) _ (c .before .machine-row .ensures b h ok) (t .1) (c .if1 .left))),
 )
 
--- src/halves.rt:40:1
 returns-2 : tie.Need-returns-2 Inv-loop μ-loop
 returns-2 c = λ b h ok l.
     let a = c .before .loop in
@@ -88,12 +59,12 @@ half-recorded-spec =
     (tie.spec
     Inv-loop
     μ-loop
-    half-count-requires
+    (λ c κs. search needs)
     loop-holds
-    half-at-requires
-    machine-row-requires
+    (λ c κs. search needs)
+    (λ c κs. search needs)
     returns
-    add-k
-    loop-less
+    (λ c. search needs)
+    (λ c. search needs)
     loop-again
     returns-2)

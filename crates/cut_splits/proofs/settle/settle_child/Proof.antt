@@ -1,4 +1,4 @@
-use Prim.Native.Nat.{ℕ, _+_, _-_, _≤_, _<_}
+use Prim.Native.Nat.{_+_, _-_, _≤_, _<_}
 use mathlib.Core.Path.{_≡_, refl, sym, _∙_}
 use mathlib.Core.List.{[]}
 use mathlib.Core.Option.{some}
@@ -17,13 +17,6 @@ use Rattle.cut_splits.specs.Settled.{childOf, halfOf}
 use Rattle.cut_splits.proofs.Children.{child-shard, child-apart, half-room, Filled, none-came, row-stays, half-stays, seats-stay, may-come, one-came, all-came}
 use Rattle.cut_splits.proofs.settle.settle_child.Statement.{statement}
 use Rattle.cut_splits.proofs.settle.settle_child.Tie as tie
-use Rattle.cut_splits.proofs.settle.settle_child.Reads as reads
-use Rattle.cut_splits.proofs.settle.settle_child.Lts as lts
-use Rattle.cut_splits.proofs.halves.half_count.Reads as half-count-reads
-use Rattle.cut_splits.proofs.settle.child_of.Reads as child-of-reads
-use Rattle.cut_splits.proofs.settle.settle_next.Reads as settle-next-reads
-use Rattle.reshapes.proofs.seats.count.Reads as count-reads
-use Rattle.steps.proofs.rows_within.Reads as rows-within-reads
 
 abbrev Inv-loop : tie.InvT-loop
 Inv-loop board₀ i target right child n total k₀ board k = (k ≤ total) × (n ≤ mostHalf) × (total ≤ n + mostSeats) × (length board ≡ length board₀)
@@ -33,27 +26,6 @@ Inv-loop board₀ i target right child n total k₀ board k = (k ≤ total) × (
 abbrev μ-loop : tie.MeasureT-loop
 μ-loop board₀ i target right child n total k₀ board k = total - k
 
--- src/settle.rt:103:9
-child-of-requires : tie.Need-child-of-requires Inv-loop μ-loop
-child-of-requires c κs = search needs
-
--- src/settle.rt:104:9
-half-count-requires : tie.Need-half-count-requires Inv-loop μ-loop
-half-count-requires c κs = search needs
-
--- src/settle.rt:105:40
-count-requires : tie.Need-count-requires Inv-loop μ-loop
-count-requires c κs = search needs
-
--- src/settle.rt:105:21
-rows-within-requires : tie.Need-rows-within-requires Inv-loop μ-loop
-rows-within-requires c κs = search needs
-
--- src/settle.rt:105:17
-add-total : tie.Need-add-total Inv-loop μ-loop
-add-total c = search needs
-
--- src/settle.rt:107:5
 loop-holds : tie.Need-loop-holds Inv-loop μ-loop
 loop-holds c = (
   omega arith,
@@ -69,19 +41,9 @@ loop-holds c = (
       (c .before .before .before .half-count .ensures .1 b h ok l, omega (arith, n), none-came _ _ (a .right) (a .i) b _ h (good-of b ok) (rw w (child-shard (a .right) (a .target .0) tg)) (rw w e) (half-room (a .right) f) (f .seats .room)),
 )
 
--- src/settle.rt:108:9
 settle-next-requires : tie.Need-settle-next-requires Inv-loop μ-loop
 settle-next-requires c κs = (c .before .before .loop .inv .3 ∙ c .before .before .before .before .before .before .before .before .before .before .pre .0, c .before .before .before .before .before .before .before .before .before .before .pre .1, c .before .before .loop .inv .1, omega (arith, c .before .before .loop .inv .2, c .before .loop-test .taken))
 
--- src/settle.rt:109:9
-add-k : tie.Need-add-k Inv-loop μ-loop
-add-k c = search needs
-
--- src/settle.rt:107:5
-loop-less : tie.Need-loop-less Inv-loop μ-loop
-loop-less c = search needs
-
--- src/settle.rt:107:5
 loop-again : tie.Need-loop-again Inv-loop μ-loop
 loop-again c = let a = c .before .before .before .before .before .loop in (
   omega arith,
@@ -100,11 +62,9 @@ loop-again c = let a = c .before .before .before .before .before .loop in (
       (t .0, t .1, one-came _ _ (g .right) (g .i) b _ _ u m n _ (c .before .before .settle-next .ensures (u .board) (u .held) (of-good (u .way .good)) q n d r (may-come _ _ (g .right) (g .i) b _ _ u m))),
 )
 
--- src/settle.rt:97:1
 same-length : tie.Need-same-length Inv-loop μ-loop
 same-length c = c .before .loop .inv .3
 
--- src/settle.rt:97:1
 returns : tie.Need-returns Inv-loop μ-loop
 returns c = λ b h ok l tg e.
     let a = c .before .loop in
@@ -118,15 +78,15 @@ settle-child-spec =
     (tie.spec
     Inv-loop
     μ-loop
-    child-of-requires
-    half-count-requires
-    count-requires
-    rows-within-requires
-    add-total
+    (λ c κs. search needs)
+    (λ c κs. search needs)
+    (λ c κs. search needs)
+    (λ c κs. search needs)
+    (λ c. search needs)
     loop-holds
     settle-next-requires
-    add-k
-    loop-less
+    (λ c. search needs)
+    (λ c. search needs)
     loop-again
     same-length
     returns)
