@@ -243,11 +243,11 @@ schedule-merge-reads t b =
     (λ e ds. rw (e, schedule.scheduleMerge)) (λ r e ds. rw (e, schedule.scheduleMerge))
     (λ r. cond-reads (schedule.mergeGate r b) _ _ (drain-reads t r [] [] b) (finished-reads 0 b))
 
-cut-split-reads : (t : Shard) (b : Board) → ReadsTurn (λ ds. cut.cutSplit t ds b)
+pub cut-split-reads : (t : Shard) (b : Board) → ReadsTurn (λ ds. cut.cutSplit t ds b)
 unfolding cut.cutSplit cut.cutSplitOf
 cut-split-reads t b = at-reads t b _ (λ r ds. cut.cutSplitOf t r ds b) (λ e ds. rw (e, cut.cutSplit)) (λ r e ds. rw (e, cut.cutSplit)) (λ r. checked-reads _ _ (finished-reads 1 _))
 
-cut-merge-reads : (t : Shard) (b : Board) → ReadsTurn (λ ds. cut.cutMerge t ds b)
+pub cut-merge-reads : (t : Shard) (b : Board) → ReadsTurn (λ ds. cut.cutMerge t ds b)
 unfolding cut.cutMerge cut.cutMergeOf
 cut-merge-reads t b = at-reads t b _ (λ r ds. cut.cutMergeOf t r ds b) (λ e ds. rw (e, cut.cutMerge)) (λ r e ds. rw (e, cut.cutMerge)) (λ r. checked-reads _ _ (finished-reads 1 _))
 

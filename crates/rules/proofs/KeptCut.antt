@@ -33,15 +33,15 @@ use Rattle.rules.proofs.Turns.{forAll-keeps, Finishes, checked-finishes
 
 -- ---- the tables at a cut
 
-new-committee : (s : Shard) → isShard s ≡ true → goodCommittee (entry s []) ≡ true
+pub new-committee : (s : Shard) → isShard s ≡ true → goodCommittee (entry s []) ≡ true
 unfolding goodCommittee
 new-committee s ok = and-joins _ _ ok (of-ids (Ids-none mostMembers))
 
-new-bound : {b : Board} → Good b → (s : Shard) (height : Height) → isShard s ≡ true → isWord height ≡ true → goodBoundary (entry s (newBoundary height (epochOf b))) ≡ true
+pub new-bound : {b : Board} → Good b → (s : Shard) (height : Height) → isShard s ≡ true → isWord height ≡ true → goodBoundary (entry s (newBoundary height (epochOf b))) ≡ true
 unfolding goodBoundary goodOption
 new-bound h s height ok w = all-joins _ (ok, (w, (stamp h 1 (omega arith), (stamp-now h, (refl, (refl, tt))))))
 
-good-recast : (k : Kind) (t : Shard) (height : Height) (b : Board) → isTarget t ≡ true → isWord height ≡ true → fits (recast k t height b) ≡ true → Good b → Good (recast k t height b)
+pub good-recast : (k : Kind) (t : Shard) (height : Height) (b : Board) → isTarget t ≡ true → isWord height ≡ true → fits (recast k t height b) ≡ true → Good b → Good (recast k t height b)
 unfolding recast forAll fits
 good-recast split t height b ok w f h =
     let s = family t ok in
@@ -66,19 +66,19 @@ good-recast merge t height b ok w f h =
 
 -- the new committees are empty
 module _ (t : Shard) (height : Height) (b : Board) where
-  fresh-left : at (leftOf t) (recast split t height b .committees) ≡ some []
+  pub fresh-left : at (leftOf t) (recast split t height b .committees) ≡ some []
   unfolding recast forAll
   fresh-left = rw (at-put (leftOf t) (rightOf t), eqb-apart (leftOf t) (rightOf t) (omega arith), at-put (leftOf t) (leftOf t), eqb-same)
 
-  fresh-right : at (rightOf t) (recast split t height b .committees) ≡ some []
+  pub fresh-right : at (rightOf t) (recast split t height b .committees) ≡ some []
   unfolding recast forAll
   fresh-right = rw (at-put (rightOf t) (rightOf t), eqb-same)
 
-  fresh-parent : at t (recast merge t height b .committees) ≡ some []
+  pub fresh-parent : at t (recast merge t height b .committees) ≡ some []
   unfolding recast forAll
   fresh-parent = rw (at-put t t, eqb-same)
 
-height-word : {b : Board} → Good b → (s : Shard) → isWord (heightOf s b) ≡ true
+pub height-word : {b : Board} → Good b → (s : Shard) → isWord (heightOf s b) ≡ true
 unfolding heightOf goodBoundary
 height-word {b} h s = go (at s (b .bounds)) refl
   where
@@ -86,21 +86,21 @@ height-word {b} h s = go (at s (b .bounds)) refl
     go none e = refl
     go (some v) e = all-parts _ (h .bounds .each-good s v e) .1 .0
 
-larger-word : (m n : Height) → isWord m ≡ true → isWord n ≡ true → isWord (larger m n) ≡ true
+pub larger-word : (m n : Height) → isWord m ≡ true → isWord n ≡ true → isWord (larger m n) ≡ true
 larger-word m n p q = by-cases (λ k. isWord k ≡ true) (leb m n) n m (λ e. q) (λ e. p)
 
 -- ---- a new committee filled: whoever is in it is seated there, so nobody comes twice
 
-record Settling (a : Board) (c : Shard) (l : List Id) (b : Board) : Type 0 where
-  good : Good b
-  shard : isShard c ≡ true
-  few : length (membersOf c b) + length l ≤ mostMembers
-  opens : Opens c b
-  seated : (x : ℕ) → 1 ≤ occ x (membersOf c b) → says (isSeatedOn c) b x ≡ true
+pub record Settling (a : Board) (c : Shard) (l : List Id) (b : Board) : Type 0 where
+  pub good : Good b
+  pub shard : isShard c ≡ true
+  pub few : length (membersOf c b) + length l ≤ mostMembers
+  pub opens : Opens c b
+  pub seated : (x : ℕ) → 1 ≤ occ x (membersOf c b) → says (isSeatedOn c) b x ≡ true
   -- the others are as they were
-  others : (d : Shard) → d ≢ c → at d (b .committees) ≡ at d (a .committees)
+  pub others : (d : Shard) → d ≢ c → at d (b .committees) ≡ at d (a .committees)
 
-settling : {b : Board} (c : Shard) (l : List Id) → Good b → isShard c ≡ true → at c (b .committees) ≡ some [] → length l ≤ mostMembers → Settling b c l b
+pub settling : {b : Board} (c : Shard) (l : List Id) → Good b → isShard c ≡ true → at c (b .committees) ≡ some [] → length l ≤ mostMembers → Settling b c l b
 settling {b} c l h ok e n = record {
   good = h;
   shard = ok;
@@ -114,10 +114,10 @@ pass : {a b : Board} {c : Shard} (x : Id) (l : List Id) → Settling a c (x ∷ 
 pass x l s = record { good = s .good; shard = s .shard; few = omega (arith, s .few); opens = s .opens; seated = s .seated; others = s .others }
 
 -- a move onto a shard, of one that was not seated there
-record Arrives (c : Shard) (move : Place → Place) (p : Place) : Type 0 where
-  keeps : Keeps move
-  before : isSeatedOn c p ≡ false
-  after : isSeatedOn c (move p) ≡ true
+pub record Arrives (c : Shard) (move : Place → Place) (p : Place) : Type 0 where
+  pub keeps : Keeps move
+  pub before : isSeatedOn c p ≡ false
+  pub after : isSeatedOn c (move p) ≡ true
 
 single : (x y : ℕ) → 1 ≤ occ y (x ∷ []) → y ≡ x
 single x y o = go (alike y x)
@@ -127,7 +127,7 @@ single x y o = go (alike y x)
     go (apart p q) = absurd (omega (arith, o, occ-single y x, hit-apart y x p))
 
 -- it is no member yet, since members are seated there
-may-arrive : {a b : Board} {c : Shard} (x : Id) (l : List Id) (p : Place) → at x (b .machines) ≡ some p → isSeatedOn c p ≡ false → Settling a c (x ∷ l) b → Joins c (x ∷ []) b
+pub may-arrive : {a b : Board} {c : Shard} (x : Id) (l : List Id) (p : Place) → at x (b .machines) ≡ some p → isSeatedOn c p ≡ false → Settling a c (x ∷ l) b → Joins c (x ∷ []) b
 may-arrive {a} {b} {c} x l p e n s =
     joins (s .good) c (s .shard) (Ids-join x (Ids-none mostMembers) (machine-at (s .good) x p e .0) (occ-nil x) (omega arith)) (λ y o. rw (single x y o) (go (leb 1 (occ x (membersOf c b))) refl)) (omega (arith, s .few)) (s .opens)
   where
@@ -156,21 +156,21 @@ arrive {a} {b} {c} x l p move e v s = record {
 -- ---- CUT SPLITS
 
 -- one seated elsewhere
-from-seat : (c t : Shard) (move : Place → Place) (p : Place) → c ≢ t → Keeps move → ((s : ShardId) (r : Bool) (w : Stamp) → isSeatedOn c (move (Seated s r w)) ≡ true) → isSeatedOn t p ≡ true → Arrives c move p
+pub from-seat : (c t : Shard) (move : Place → Place) (p : Place) → c ≢ t → Keeps move → ((s : ShardId) (r : Bool) (w : Stamp) → isSeatedOn c (move (Seated s r w)) ≡ true) → isSeatedOn t p ≡ true → Arrives c move p
 from-seat c t move Pooled n k m h = absurd (false≢true h)
 from-seat c t move (Seated s r w) n k m h = record { keeps = k; before = eqb-apart (s .0) c (λ e. n (sym e ∙ eq-of (s .0) t h)); after = m s r w }
 from-seat c t move (Observing s w) n k m h = absurd (false≢true h)
 from-seat c t move Short n k m h = absurd (false≢true h)
 from-seat c t move (Other m) n k l h = absurd (false≢true h)
 
-watched : (c : Shard) (q : Seat) (e : Epoch) (p : Place) → isShard c ≡ true → isStamp e ≡ true → isObserving p ≡ true → Arrives c (seatedBy c q e) p
+pub watched : (c : Shard) (q : Seat) (e : Epoch) (p : Place) → isShard c ≡ true → isStamp e ≡ true → isObserving p ≡ true → Arrives c (seatedBy c q e) p
 watched c q e Pooled ok w h = absurd (false≢true h)
 watched c q e (Seated s r u) ok w h = absurd (false≢true h)
 watched c q e (Observing s u) ok w h = record { keeps = keeps-seatedFromWatch c ok (q .ready) e w; before = refl; after = eqb-same c }
 watched c q e Short ok w h = absurd (false≢true h)
 watched c q e (Other m) ok w h = absurd (false≢true h)
 
-settle-keeps : (a : Board) (t c : Shard) (seats : Table Seat) → c ≢ t → (x : Id) (l : List Id) (b : Board) → Settling a c (x ∷ l) b → Settling a c l (settle t c seats x b)
+pub settle-keeps : (a : Board) (t c : Shard) (seats : Table Seat) → c ≢ t → (x : Id) (l : List Id) (b : Board) → Settling a c (x ∷ l) b → Settling a c l (settle t c seats x b)
 unfolding settle
 settle-keeps a t c seats n x l b s = go (at x (b .machines)) refl
   where
@@ -188,7 +188,7 @@ settle-keeps a t c seats n x l b s = go (at x (b .machines)) refl
     go (some p) e = by-cases (Settling a c l) (isSeatedOn t p) _ _ (λ u. arrive x l p _ e (from-seat c t (movedTo c) p n (keeps-movedTo c (s .shard)) (λ q r w. eqb-same c) u) s) (λ u. look p e (at x seats))
 
 -- at most 48 of a half and 32 of a cohort
-good-settleChild : {b : Board} {half : List Id} {seats : Table Seat} (t c : Shard) → Ids mostHalf half → Rows mostSeats (goodSeat t) seats → c ≢ t → isShard c ≡ true → at c (b .committees) ≡ some [] → Good b
+pub good-settleChild : {b : Board} {half : List Id} {seats : Table Seat} (t c : Shard) → Ids mostHalf half → Rows mostSeats (goodSeat t) seats → c ≢ t → isShard c ≡ true → at c (b .committees) ≡ some [] → Good b
     → Settling b c [] (settleChild t c half seats b)
 unfolding settleChild cohortFor
 good-settleChild {b} {half} {seats} t c m k n ok e h =
@@ -196,7 +196,7 @@ good-settleChild {b} {half} {seats} t c m k n ok e h =
     let all : length ids ≤ mostMembers = rw length-append (omega (arith, m .room, k .room, length-keysWhere (λ q. eqb (q .child) c) seats)) in
     forAll-all (Settling b c) (settle t c seats) (settle-keeps b t c seats n) ids b (settling c ids h ok e all)
 
-cut-split-finishes : (t : Shard) (r : Reshape) (draws : List ℕ) (b : Board) → Fit t r → Good b → Finishes Good (cutSplitOf t r draws b)
+pub cut-split-finishes : (t : Shard) (r : Reshape) (draws : List ℕ) (b : Board) → Fit t r → Good b → Finishes Good (cutSplitOf t r draws b)
 unfolding cutSplitOf cutFaults
 cut-split-finishes t r draws b f h =
     checked-finishes Good _ _ (λ p.
@@ -211,7 +211,7 @@ good-cutSplits b h = batch-keeps Good cutSplit _ [] b (λ w t o draws c g. resha
 
 -- ---- CUT MERGES
 
-rejoin-keeps : (a : Board) (t : Shard) (keepers : Table Seat) → 1 ≤ t → (x : Id) (l : List Id) (b : Board) → Settling a t (x ∷ l) b → Settling a t l (rejoin t keepers x b)
+pub rejoin-keeps : (a : Board) (t : Shard) (keepers : Table Seat) → 1 ≤ t → (x : Id) (l : List Id) (b : Board) → Settling a t (x ∷ l) b → Settling a t l (rejoin t keepers x b)
 unfolding rejoin
 rejoin-keeps a t keepers m x l b s = go (at x (b .machines)) refl
   where
@@ -232,15 +232,15 @@ rejoin-keeps a t keepers m x l b s = go (at x (b .machines)) refl
     go (some p) e = look p e (at x keepers)
 
 -- pooling touches no committee
-record Empty (t : Shard) (b : Board) : Type 0 where
-  good : Good b
-  there : at t (b .committees) ≡ some []
+pub record Empty (t : Shard) (b : Board) : Type 0 where
+  pub good : Good b
+  pub there : at t (b .committees) ≡ some []
 
-empty-place : (t : Shard) (x : Id) (b : Board) → Empty t b → Empty t (place x pooled b)
+pub empty-place : (t : Shard) (x : Id) (b : Board) → Empty t b → Empty t (place x pooled b)
 unfolding place
 empty-place t x b h = record { good = good-place x pooled keeps-pooled (h .good); there = h .there }
 
-cut-merge-finishes : (t : Shard) (r : Reshape) (draws : List ℕ) (b : Board) → Fit t r → Good b → Finishes Good (cutMergeOf t r draws b)
+pub cut-merge-finishes : (t : Shard) (r : Reshape) (draws : List ℕ) (b : Board) → Fit t r → Good b → Finishes Good (cutMergeOf t r draws b)
 unfolding cutMergeOf cutFaults keysOf
 cut-merge-finishes t r draws b f h =
     checked-finishes Good _ _ (λ p.

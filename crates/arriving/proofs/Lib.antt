@@ -1,0 +1,3 @@
+pub mod Comes
+pub mod Lists
+pub mod Batch

@@ -1,0 +1,49 @@
+// What both cuts share: a machine that comes to a new shard, and the records of those who have a seat.
+use board::layout::MOST_MACHINES;
+use board::layout::MOST_SEATS;
+use board::machines;
+use reshapes::seats;
+use types::Place;
+use types::ShardId;
+ghost use mathlib.Core.Path.{_≡_};
+ghost use mathlib.Core.List.{[], _∷_};
+ghost use mathlib.Core.Bool.{true};
+ghost use Prim.Native.Nat.{_<_};
+ghost use lib.ListN.{length, getD};
+ghost use Rattle.rules.specs.Lists.{every};
+ghost use Rattle.rules.specs.Table.{stands, keysOf};
+ghost use Rattle.rules.specs.Board.{Board, mostMachines, mostReshapes};
+ghost use Rattle.rules.specs.WellFormed.{wellFormed};
+ghost use Rattle.rules.specs.Moves.{mayJoin, putOn};
+ghost use Rattle.board.specs.Layout.{boardSize};
+ghost use Rattle.board.specs.Held.{Holds, noMachine};
+ghost use Rattle.arriving.specs.Coming.{reshapeIn};
+
+// The machine at a row gets a new place, and joins the shard.
+pub fn put_on(board: &mut [u64], row: usize, shard: ShardId, place: Place)
+    requires { ⌜ (length (now board) ≡ boardSize) × (row < mostMachines) ⌝ }
+    ensures { λ _. ⌜ ((b : Board) → Holds (now (board .entry)) b → wellFormed b ≡ true → row < length (b .machines) → mayJoin (shard .0) (getD (b .machines) row noMachine .key ∷ []) b ≡ true →
+        Holds (now (board .exit)) (putOn (shard .0) (λ q. place) (getD (b .machines) row noMachine .key) b)) ⌝ }
+{
+    let m = machines::at(board, row);
+    pool::put_place(board, row, place);
+    pool::join(board, shard, m.id);
+}
+
+// Every machine that has a seat in the reshape at i has a record.
+pub fn seats_recorded(board: &[u64], i: usize) -> bool
+    requires { ⌜ (length (now board) ≡ boardSize) × (i < mostReshapes) ⌝ }
+    ensures { λ r. ⌜ ((b : Board) → Holds (now (board .entry)) b → wellFormed b ≡ true → i < length (b .reshapes) →
+        r ≡ every (λ x. stands x (b .machines)) (keysOf (reshapeIn i b .seats))) ⌝ }
+{
+    let n = steps::rows_within(seats::count(board, i), MOST_SEATS);
+    let mut k: usize = 0;
+    while k < n {
+        let seat = seats::at(board, i, k);
+        if MOST_MACHINES <= rows::machine_row(board, seat.id) {
+            return false;
+        }
+        k += 1;
+    }
+    true
+}

@@ -1,0 +1,3 @@
+pub mod Drains
+pub mod Rejoins
+pub mod Cuts
