@@ -27,30 +27,33 @@ pub fn next(fd: i32) -> Call {
     }
 }
 
-// Whether an export makes this step; 16 is a read.
-pub fn is_there(step: u64) -> bool {
-    (step == 1) | (step == 4) | (step == 5) | ((12 <= step) & (step <= 16))
+// A step over several shards keeps its work on those before a refused one.
+pub fn is_batch(step: u64) -> bool {
+    (8 <= step) & (step <= 11)
 }
 
+// No answer of any step.
+const NO_SUCH_STEP: u64 = 255;
+
 pub fn make(call: Call, board: &mut [u64], draws: &[u64], results: &mut [u64; 2]) -> u64 {
-    let step = call.step;
-    if step == 1 {
-        return roster::roster_tick(board, results);
+    let shard = call.shard;
+    let machine = call.machine;
+    match call.step {
+        1 => roster::roster_tick(board, results),
+        2 => roster::roster_admit_split(board, shard, results),
+        3 => roster::roster_admit_merge(board, shard, draws, results),
+        4 => roster::roster_mark_seat_ready(board, shard, machine, results),
+        5 => roster::roster_mark_quiet(board, shard, call.side, results),
+        6 => roster::roster_draw_cohort(board, shard, draws, results),
+        7 => roster::roster_lapse(board, shard, results),
+        8 => roster::roster_schedule_splits(board, draws, results),
+        9 => roster::roster_schedule_merges(board, results),
+        10 => roster::roster_cut_splits(board, results),
+        11 => roster::roster_cut_merges(board, results),
+        12 => roster::roster_leave(board, machine, draws, results),
+        13 => roster::roster_rotate(board, shard, machine, draws, results),
+        14 => roster::roster_resolve(board, results),
+        15 => roster::roster_time_out(board, results),
+        _ => NO_SUCH_STEP,
     }
-    if step == 4 {
-        return roster::roster_mark_seat_ready(board, call.shard, call.machine, results);
-    }
-    if step == 5 {
-        return roster::roster_mark_quiet(board, call.shard, call.side, results);
-    }
-    if step == 12 {
-        return roster::roster_leave(board, call.machine, draws, results);
-    }
-    if step == 13 {
-        return roster::roster_rotate(board, call.shard, call.machine, draws, results);
-    }
-    if step == 14 {
-        return roster::roster_resolve(board, results);
-    }
-    roster::roster_time_out(board, results)
 }

@@ -17,6 +17,8 @@ const MOST_WORDS: u64 = 8192;
 
 const MOST_BYTES: u64 = 65536;
 
+const NOT_WELL_FORMED: u64 = 1;
+
 // The code of a read, and the places of the first and the last snapshot.
 const READ: u64 = 16;
 
@@ -102,38 +104,28 @@ fn makes_as(call: Call, draws: &[u64], board: &mut [u64; WORDS], sum: u64) -> bo
     let mut results = [0u64; 2];
     let answer = calls::make(call, board, draws, &mut results);
     let told = (answer == call.answer) & (results[0] == call.handled) & (results[1] == call.used);
-    if answer == 0 {
+    if (answer == 0) | (calls::is_batch(call.step) & (answer != NOT_WELL_FORMED)) {
         return told & (sum_of(board) == sum);
     }
     told & sums::same_words(&before, board)
 }
 
-// Whether the board is still the recorded one, and the checksum of its snapshot.
-struct Stand {
-    known: bool,
-    sum: u64,
-}
-
-// One call: made if its step is there and the board known; one that is not there is passed over, and where it changed the board the rest is not made.
+// One call, made while the board is the recorded one: whether it still is.
 fn follow_call(
     fd: i32,
     start: &[u8],
     good: bool,
     board: &mut [u64; WORDS],
-    at: Stand,
+    known: bool,
     tally: &mut [u64; PLACES],
-) -> Stand {
+) -> bool {
     let call = calls::next(fd);
     let mut draws = draws_room();
     let n = input::words(fd, call.draws, &mut draws);
     let sum = input::word(fd);
-    let made = at.known & calls::is_there(call.step);
-    if !made {
+    if !known {
         tally::pass_over(tally, call.step);
-        return Stand {
-            known: at.known & (sum == at.sum),
-            sum: sum,
-        };
+        return false;
     }
     let mut same = false;
     if call.step == READ {
@@ -142,10 +134,7 @@ fn follow_call(
         same = makes_as(call, &draws[..n], board, sum);
     }
     tally::add(tally, call.step, same);
-    Stand {
-        known: same,
-        sum: sum,
-    }
+    same
 }
 
 fn follow_calls(
@@ -155,16 +144,13 @@ fn follow_calls(
     board: &mut [u64; WORDS],
     tally: &mut [u64; PLACES],
 ) -> bool {
-    let mut at = Stand {
-        known: true,
-        sum: sums::checksum(start),
-    };
+    let mut known = true;
     let mut left = input::word(fd) % MOST_CALLS;
     while 0 < left {
-        at = follow_call(fd, start, good, board, at, tally);
+        known = follow_call(fd, start, good, board, known, tally);
         left -= 1;
     }
-    at.known
+    known
 }
 
 // The snapshot after the last call.

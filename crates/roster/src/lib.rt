@@ -5,6 +5,8 @@ ghost use mathlib.Core.Path.{_≡_};
 ghost use Rattle.board.specs.Layout.{boardSize};
 ghost use Rattle.rules.specs.Places.{tick, leave, rotate, resolve, timeOut};
 ghost use Rattle.rules.specs.Reshapes.{admitSplit, admitMerge, markSeatReady, markQuiet, drawCohort, lapse};
+ghost use Rattle.rules.specs.Schedule.{scheduleSplits, scheduleMerges};
+ghost use Rattle.rules.specs.Cut.{cutSplits, cutMerges};
 ghost use Rattle.roster.specs.Exported.{ExportedStep, ExportedCheck, ExportedWrite, ExportedRead};
 
 // How many words a board is: lend exactly as many.
@@ -193,6 +195,50 @@ pub extern "C" fn roster_lapse(board: &mut [u64], target: u64, results: &mut [u6
     ensures { λ r. ⌜ ExportedStep (lapse target) (now (board .entry)) (now (board .exit)) r (now (results .exit)) ⌝ }
 {
     let told = cohorts::lapse::lapse_split(board, ShardId(target));
+    *results = [told.handled, told.draws_used];
+    let answer = told.answer;
+    answer.number()
+}
+
+#[no_mangle]
+pub extern "C" fn roster_schedule_splits(
+    board: &mut [u64],
+    draws: &[u64],
+    results: &mut [u64; 2],
+) -> u64
+    ensures { λ r. ⌜ ExportedStep (scheduleSplits (now (draws .entry))) (now (board .entry)) (now (board .exit)) r (now (results .exit)) ⌝ }
+{
+    let told = schedule_splits::schedule_ready_splits(board, draws);
+    *results = [told.handled, told.draws_used];
+    let answer = told.answer;
+    answer.number()
+}
+
+#[no_mangle]
+pub extern "C" fn roster_schedule_merges(board: &mut [u64], results: &mut [u64; 2]) -> u64
+    ensures { λ r. ⌜ ExportedStep scheduleMerges (now (board .entry)) (now (board .exit)) r (now (results .exit)) ⌝ }
+{
+    let told = schedule_merges::schedule_ready_merges(board);
+    *results = [told.handled, told.draws_used];
+    let answer = told.answer;
+    answer.number()
+}
+
+#[no_mangle]
+pub extern "C" fn roster_cut_splits(board: &mut [u64], results: &mut [u64; 2]) -> u64
+    ensures { λ r. ⌜ ExportedStep cutSplits (now (board .entry)) (now (board .exit)) r (now (results .exit)) ⌝ }
+{
+    let told = cut_splits::apply_scheduled_splits(board);
+    *results = [told.handled, told.draws_used];
+    let answer = told.answer;
+    answer.number()
+}
+
+#[no_mangle]
+pub extern "C" fn roster_cut_merges(board: &mut [u64], results: &mut [u64; 2]) -> u64
+    ensures { λ r. ⌜ ExportedStep cutMerges (now (board .entry)) (now (board .exit)) r (now (results .exit)) ⌝ }
+{
+    let told = cut_merges::apply_scheduled_merges(board);
     *results = [told.handled, told.draws_used];
     let answer = told.answer;
     answer.number()
