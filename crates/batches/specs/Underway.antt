@@ -10,10 +10,10 @@ use Rattle.board.specs.Held.{Holds}
 use Rattle.pool.specs.declared.Turned.{Turned}
 use Rattle.pool.specs.declared.Turned.the-variants.{Done, Refused}
 
--- a turn handles its shard or not, whatever the words hold
-abbrev pub HandlesOne : Turned → Type 0
-HandlesOne (Done n left) = n ≤ 1
-HandlesOne (Refused a) = Unit {0}
+-- a turn handles its shard or not, and its reader is not past a place, whatever the words hold
+abbrev pub Within : ℕ → Turned → Type 0
+Within most (Done n left) = (n ≤ 1) × (left .at ≤ most)
+Within most (Refused a) = Unit {0}
 
 -- the first i shards have had their turns, with these counts; the words hold the board that they left, which has what each turn keeps
 pub record Underway (turn : Shard → List ℕ → Board → Turn) (Keeps : Board → Type 0) (shards : List Shard) (draws : List ℕ) (b : Board) (i handled at : ℕ) (now : List ℕ) : Type 0 where

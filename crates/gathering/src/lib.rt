@@ -51,12 +51,12 @@ fn enters(board: &[u64], shard: ShardId, id: ValidatorId) -> bool
     ensures { λ r. ⌜ ((b : Board) → Holds (now (board .entry)) b → r ≡ has (id .0) (entrantsOn (shard .0) (b .rotations))) ⌝ }
 {
     let n = rotations::rows(board);
-    let mut i: usize = 0;
-    while i < n {
-        if enters_at(board, shard, id, i) {
+    let mut row: usize = 0;
+    while row < n {
+        if enters_at(board, shard, id, row) {
             return true;
         }
-        i += 1;
+        row += 1;
     }
     false
 }

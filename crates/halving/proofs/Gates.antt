@@ -30,10 +30,10 @@ unfolding readyFor
 half-is c half r b members seats e f = rw (e, f)
 
 module _ (t : Shard) (ids : List Id) (b : Board) where
-  pub gate-is : (r : Reshape) (l q : Bool) (right : List Id) → right ≡ rights ids → l ≡ leb (quorum (sizeOf b)) (readyFor (leftOf t) (lefts ids) r b)
+  pub gate-is : (r : Reshape) (l q : Bool) (left right : List Id) → left ≡ lefts ids → right ≡ rights ids → l ≡ leb (quorum (sizeOf b)) (readyFor (leftOf t) left r b)
       → q ≡ leb (quorum (sizeOf b)) (readyFor (rightOf t) right r b) → (l && q) ≡ splitGate t (lefts ids) (rights ids) r b
   unfolding splitGate
-  gate-is r l q right d e f = and-is l q ∙ rw (e, f, d)
+  gate-is r l q left right c d e f = and-is l q ∙ rw (e, f, c, d)
 
   pub gate-none : at t (b .reshapes) ≡ none → Gate t ids b mostReshapes
   gate-none n = record { row = λ h. absurd (omega arith); opens = λ h. absurd (omega arith); shut = λ h q e. absurd (Option·none-ne-some q (sym n ∙ e)) }

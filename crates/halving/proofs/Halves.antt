@@ -19,9 +19,12 @@ use Rattle.drains.specs.Plans.{RowOf}
 use Rattle.drains.proofs.Schedules.{change-twice, marks, scheduled-at}
 use Rattle.halving.specs.Gate.{lefts, rights, onHalf, halfOf}
 
--- the rest of a list, as the code lends it
-pub lent-rest : (ids : List Id) → take (length ids - halfUp (length ids)) (drop (halfUp (length ids)) ids) ≡ rights ids
-lent-rest ids = take-all (length ids - halfUp (length ids)) (rights ids) (rw length-drop (omega arith))
+-- the halves of a list, as the code lends them
+pub lent-rest : (ids : List Id) (n : ℕ) → n ≡ halfUp (length ids) → take (length ids - n) (drop n ids) ≡ rights ids
+lent-rest ids n e = rw e (take-all (length ids - halfUp (length ids)) (rights ids) (rw length-drop (omega arith)))
+
+pub lent-front : (ids : List Id) (n : ℕ) → n ≡ halfUp (length ids) → take n ids ≡ lefts ids
+lent-front ids n e = rw e
 
 -- ---- one reshape
 
@@ -78,27 +81,26 @@ module _ (b : Board) (ok : wellFormed b ≡ true) (t : Shard) (i : ℕ) (at-i : 
   pub base-inside : i < length (Base .reshapes)
   base-inside = simp length-set (at-i .inside)
 
-  module _ (ids : List Id) (few : length ids ≤ mostMembers) where
-    pub left-room : length (halfOf true (getD (Base .reshapes) i noReshape .val)) + length (lefts ids) ≤ mostHalf
-    left-room = rw (getD-set-same (b .reshapes) i _ noReshape (at-i .inside), length-take) (omega arith)
+  module _ (ids : List Id) (few : length ids ≤ mostMembers) (left right : List Id) (d : left ≡ lefts ids) (e : right ≡ rights ids) where
+    pub left-room : length (halfOf true (getD (Base .reshapes) i noReshape .val)) + length left ≤ mostHalf
+    left-room = rw (getD-set-same (b .reshapes) i _ noReshape (at-i .inside), d, length-take) (omega arith)
 
     -- the left half stored
     abbrev pub Lefts : Board
-    Lefts = onReshapes (changeAt noReshape i (onHalf true (λ h. h ++ lefts ids))) Base
+    Lefts = onReshapes (changeAt noReshape i (onHalf true (λ h. h ++ left))) Base
 
     pub lefts-inside : i < length (Lefts .reshapes)
     lefts-inside = simp length-set (at-i .inside)
 
-    module _ (right : List Id) (e : right ≡ rights ids) where
-      pub right-room : length (halfOf false (getD (Lefts .reshapes) i noReshape .val)) + length right ≤ mostHalf
-      right-room =
-          rw (getD-set-same (Base .reshapes) i _ noReshape base-inside, getD-set-same (b .reshapes) i _ noReshape (at-i .inside), e, length-drop) (omega arith)
+    pub right-room : length (halfOf false (getD (Lefts .reshapes) i noReshape .val)) + length right ≤ mostHalf
+    right-room =
+        rw (getD-set-same (Base .reshapes) i _ noReshape base-inside, getD-set-same (b .reshapes) i _ noReshape (at-i .inside), e, length-drop) (omega arith)
 
-      stored : changeAt noReshape i (onHalf false (λ h. h ++ rights ids)) (changeAt noReshape i (onHalf true (λ h. h ++ lefts ids)) (changeAt noReshape i (withTerminal (epochOf b + 1) [] []) (b .reshapes)))
-          ≡ changeAt noReshape i (withTerminal (epochOf b + 1) (lefts ids) (rights ids)) (b .reshapes)
-      stored =
-          ap (changeAt noReshape i (onHalf false (λ h. h ++ rights ids))) (change-twice noReshape i (withTerminal (epochOf b + 1) [] []) (onHalf true (λ h. h ++ lefts ids)) (b .reshapes) (at-i .inside))
-          ∙ change-twice noReshape i (λ v. onHalf true (λ h. h ++ lefts ids) (withTerminal (epochOf b + 1) [] [] v)) (onHalf false (λ h. h ++ rights ids)) (b .reshapes) (at-i .inside)
+    stored : changeAt noReshape i (onHalf false (λ h. h ++ right)) (changeAt noReshape i (onHalf true (λ h. h ++ left)) (changeAt noReshape i (withTerminal (epochOf b + 1) [] []) (b .reshapes)))
+        ≡ changeAt noReshape i (withTerminal (epochOf b + 1) left right) (b .reshapes)
+    stored =
+        ap (changeAt noReshape i (onHalf false (λ h. h ++ right))) (change-twice noReshape i (withTerminal (epochOf b + 1) [] []) (onHalf true (λ h. h ++ left)) (b .reshapes) (at-i .inside))
+        ∙ change-twice noReshape i (λ v. onHalf true (λ h. h ++ left) (withTerminal (epochOf b + 1) [] [] v)) (onHalf false (λ h. h ++ right)) (b .reshapes) (at-i .inside)
 
-      pub halves-set : (after : List ℕ) → Holds after (onReshapes (changeAt noReshape i (onHalf false (λ h. h ++ right))) Lefts) → Holds after (scheduled t before (lefts ids) (rights ids) b)
-      halves-set after h = rw (scheduled-at b ok t i at-i (lefts ids) (rights ids), ← stored) (rw e at h)
+    pub halves-set : (after : List ℕ) → Holds after (onReshapes (changeAt noReshape i (onHalf false (λ h. h ++ right))) Lefts) → Holds after (scheduled t before (lefts ids) (rights ids) b)
+    halves-set after h = rw (← d, ← e, scheduled-at b ok t i at-i left right, ← stored) h

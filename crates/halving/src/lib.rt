@@ -17,12 +17,20 @@ ghost use Rattle.rules.specs.Lists.{count};
 ghost use Rattle.rules.specs.Board.{Board, mostMembers, mostReshapes, mostHalf, lastTarget, onReshapes, sizeOf};
 ghost use Rattle.rules.specs.WellFormed.{wellFormed};
 ghost use Rattle.rules.specs.Moves.{says};
+ghost use Rattle.rules.specs.Reshapes.{halfUp};
 ghost use Rattle.rules.specs.Schedule.{scheduled, readyFor, splitGate};
 ghost use Rattle.board.specs.Layout.{boardSize};
 ghost use Rattle.board.specs.Held.{Holds, noReshape};
 ghost use Rattle.board.specs.Leaves.{changeAt};
 ghost use Rattle.drains.specs.Plans.{RowOf};
 ghost use Rattle.halving.specs.Gate.{lefts, rights, onHalf, halfOf, Gate};
+
+// The left half has n/2, rounded up.
+fn left_size(ids: &[u64]) -> usize
+    ensures { λ r. ⌜ r ≡ halfUp (length (now (ids .entry))) ⌝ }
+{
+    (ids.len() + 1) / 2
+}
 
 // ---- the gate
 
@@ -57,7 +65,7 @@ fn passes_gate(board: &[u64], target: ShardId, i: usize, ids: &[u64]) -> bool
     ensures { λ r. ⌜ ((b : Board) → Holds (now (board .entry)) b → wellFormed b ≡ true → i < length (b .reshapes) →
         r ≡ splitGate (target .0) (lefts (now (ids .entry))) (rights (now (ids .entry))) (getD (b .reshapes) i noReshape .val) b) ⌝ }
 {
-    let n = (ids.len() + 1) / 2;
+    let n = left_size(ids);
     let left = is_half_ready(board, i, target.left(), &ids[..n]);
     left & is_half_ready(board, i, target.right(), &ids[n..])
 }
@@ -112,7 +120,7 @@ pub fn schedule(board: &mut [u64], target: ShardId, i: usize, ids: &[u64])
     ensures { λ _. ⌜ ((b : Board) → Holds (now (board .entry)) b → wellFormed b ≡ true → RowOf (target .0) i b →
         Holds (now (board .exit)) (scheduled (target .0) (getD (b .reshapes) i noReshape .val) (lefts (now (ids .entry))) (rights (now (ids .entry))) b)) ⌝ }
 {
-    let n = (ids.len() + 1) / 2;
+    let n = left_size(ids);
     drains::schedule(board, target, i);
     store_half(board, i, true, &ids[..n]);
     store_half(board, i, false, &ids[n..]);

@@ -22,7 +22,7 @@ ghost use Rattle.board.specs.Held.{Holds, noReshape};
 ghost use Rattle.board.specs.Permitted.{PermittedStep};
 ghost use Rattle.steps.specs.Inner.{Step, Steps};
 ghost use Rattle.pool.specs.Told.{TellsTurn};
-ghost use Rattle.batches.specs.Underway.{HandlesOne};
+ghost use Rattle.batches.specs.Underway.{Within};
 
 fn passes_gate(board: &[u64], i: usize) -> bool
     requires { ⌜ (length (now board) ≡ boardSize) × (i < mostReshapes) ⌝ }
@@ -35,7 +35,7 @@ fn passes_gate(board: &[u64], i: usize) -> bool
 // One merge's turn; where it is refused, every word is as before.
 fn try_schedule_merge(board: &mut [u64], target: ShardId) -> Turned
     requires { ⌜ length (now board) ≡ boardSize ⌝ }
-    ensures { λ r. ⌜ HandlesOne r × ((b : Board) → Holds (now (board .entry)) b → wellFormed b ≡ true → TellsTurn [] (now (board .exit)) b (scheduleMerge (target .0) [] b) r) ⌝ }
+    ensures { λ r. ⌜ Within 0 r × ((b : Board) → Holds (now (board .entry)) b → wellFormed b ≡ true → TellsTurn [] (now (board .exit)) b (scheduleMerge (target .0) [] b) r) ⌝ }
 {
     let at = Reader::start();
     if !rows::is_target(target) {

@@ -35,14 +35,14 @@ use Rattle.pool.specs.declared.Turned.{Turned}
 use Rattle.pool.specs.declared.Turned.the-variants.{Done, Refused}
 use Rattle.gathering.specs.declared.Members.the-variants.{Staying}
 use Rattle.gathering.specs.Gathered.{gathered, Lacks, lacking, large}
-use Rattle.batches.specs.Underway.{Underway}
+use Rattle.batches.specs.Underway.{Within, Underway}
 use Rattle.batches.proofs.Law.{TellsShard, begins, ends}
 use Rattle.batches.proofs.Loop.{turn-done, turn-refused}
 use Rattle.drains.specs.declared.Plan.{Plan}
 use Rattle.drains.specs.Plans.{RowOf, planOf}
 use Rattle.drains.proofs.Drains.{planned, drain-planned, row-at}
 use Rattle.halving.specs.Gate.{lefts, rights}
-use Rattle.schedule_splits.specs.Within.{Stay, Within}
+use Rattle.schedule_splits.specs.Stay.{Stay}
 use Rattle.schedule_splits.proofs.Stays.{count-same, stayer-says, seated-stay, abort-rest}
 
 -- ---- after the abort

@@ -25,8 +25,9 @@ ghost use Rattle.board.specs.Permitted.{PermittedStep};
 ghost use Rattle.steps.specs.Inner.{Step, Steps};
 ghost use Rattle.pool.specs.Told.{TellsTurn};
 ghost use Rattle.gathering.specs.Gathered.{gathered};
+ghost use Rattle.batches.specs.Underway.{Within};
 ghost use Rattle.halving.specs.Gate.{lefts, rights};
-ghost use Rattle.schedule_splits.specs.Within.{Stay, Within};
+ghost use Rattle.schedule_splits.specs.Stay.{Stay};
 
 // ---- one split's turn
 

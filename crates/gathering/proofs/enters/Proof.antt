@@ -12,11 +12,11 @@ use Rattle.gathering.proofs.enters.Statement.{statement}
 use Rattle.gathering.proofs.enters.Tie as tie
 
 abbrev Inv-loop : tie.InvT-loop
-Inv-loop board shard id n i₀ i = (i ≤ n) × (n ≤ mostRotations)
-    × ((b : Board) → Holds board b → (n ≡ length (b .rotations)) × (has (id .0) (entrantsOn (shard .0) (drop i (b .rotations))) ≡ has (id .0) (entrantsOn (shard .0) (b .rotations))))
+Inv-loop board shard id n row₀ row = (row ≤ n) × (n ≤ mostRotations)
+    × ((b : Board) → Holds board b → (n ≡ length (b .rotations)) × (has (id .0) (entrantsOn (shard .0) (drop row (b .rotations))) ≡ has (id .0) (entrantsOn (shard .0) (b .rotations))))
 
 abbrev μ-loop : tie.MeasureT-loop
-μ-loop board shard id n i₀ i = n - i
+μ-loop board shard id n row₀ row = n - row
 
 loop-holds : tie.Need-loop-holds Inv-loop μ-loop
 loop-holds c = (omega arith, c .rows .ensures .0, λ b h. (c .rows .ensures .1 b h, refl))
@@ -25,8 +25,8 @@ returns : tie.Need-returns Inv-loop μ-loop
 returns c = λ b h.
     let a = c .before .before .before .loop in
     let t = a .inv .2 b h in
-    let l : a .i < length (b .rotations) = omega (arith, t .0, c .before .before .loop-test .taken) in
-    sym (entrant-here _ _ (b .rotations) (a .i) l (sym (c .if1 .taken) ∙ c .before .enters-at .ensures b h l)) ∙ t .1
+    let l : a .row < length (b .rotations) = omega (arith, t .0, c .before .before .loop-test .taken) in
+    sym (entrant-here _ _ (b .rotations) (a .row) l (sym (c .if1 .taken) ∙ c .before .enters-at .ensures b h l)) ∙ t .1
 
 loop-again : tie.Need-loop-again Inv-loop μ-loop
 loop-again c = let a = c .before .before .before .loop in (
@@ -34,15 +34,15 @@ loop-again c = let a = c .before .before .before .loop in (
   a .inv .1,
   λ b h.
       let t = a .inv .2 b h in
-      let l : a .i < length (b .rotations) = omega (arith, t .0, c .before .before .loop-test .taken) in
-      (t .0, sym (entrant-later _ _ (b .rotations) (a .i) l (sym (c .if1 .left) ∙ c .before .enters-at .ensures b h l)) ∙ t .1),
+      let l : a .row < length (b .rotations) = omega (arith, t .0, c .before .before .loop-test .taken) in
+      (t .0, sym (entrant-later _ _ (b .rotations) (a .row) l (sym (c .if1 .left) ∙ c .before .enters-at .ensures b h l)) ∙ t .1),
 )
 
 returns-2 : tie.Need-returns-2 Inv-loop μ-loop
 returns-2 c = λ b h.
     let a = c .before .loop in
     let t = a .inv .2 b h in
-    sym (entrant-none _ _ (b .rotations) (a .i) (omega (arith, t .0, c .loop-test .left))) ∙ t .1
+    sym (entrant-none _ _ (b .rotations) (a .row) (omega (arith, t .0, c .loop-test .left))) ∙ t .1
 
 pub enters-spec : {M : Type 1} → statement M
 enters-spec =

@@ -27,7 +27,7 @@ try-schedule-merge-requires c κs = c .before .before .before .loop .inv .2 ∙ 
 add-handled : tie.Need-add-handled Inv-loop μ-loop
 add-handled c = let e = c .before .turned .given .1 in
     let t = rw e at (c .before .before .before .before .before .try-schedule-merge .ensures .0) in
-    omega (arith, t, c .before .before .before .before .before .before .before .before .before .loop .inv .1, c .before .before .before .before .before .before .before .before .before .loop .inv .0, c .before .before .before .before .before .before .before .before .before .before .before .before .pre .1)
+    omega (arith, t .0, c .before .before .before .before .before .before .before .before .before .loop .inv .1, c .before .before .before .before .before .before .before .before .before .loop .inv .0, c .before .before .before .before .before .before .before .before .before .before .before .before .pre .1)
 
 returns : tie.Need-returns Inv-loop μ-loop
 returns c = λ b h ok. let a = c .before .before .before .before .before .before .before .before .before .loop in run-stops _ b _ _ _ _ (a .inv .3 b h ok) (c .before .before .before .before .before .before .before .before .loop-test .taken) _ (c .before .before .before .before .before .try-schedule-merge .ensures .1) _ (c .before .turned2 .given .1)
@@ -37,7 +37,7 @@ loop-again c = let a = c .before .before .before .before .before .before .before
     let e = c .before .turned .given .1 in
     let t = rw e at (c .before .before .before .before .before .try-schedule-merge .ensures .0) in (
       omega arith,
-      omega (arith, t, a .inv .1),
+      omega (arith, t .0, a .inv .1),
       c .before .before .before .before .before .try-schedule-merge .kept .0 ∙ a .inv .2,
       λ b h ok. run-on _ b _ _ _ _ (a .inv .3 b h ok) (c .before .before .before .before .before .before .before .before .loop-test .taken) _ (c .before .before .before .before .before .try-schedule-merge .ensures .1) _ _ e,
     )

@@ -10,14 +10,14 @@ use Rattle.schedule_merges.proofs.try_schedule_merge.Statement.{stateme
 use Rattle.schedule_merges.proofs.try_schedule_merge.Tie as tie
 
 returns : tie.Need-returns
-returns c = (omega arith, λ b h ok. turn-told _ (c .before .before .start .ensures) _ 0 _ b (merge-none _ _ b (no-target b ok _ (sym (c .before .is-target .ensures) ∙ not-true _ (c .if1 .taken)))) h)
+returns c = ((omega arith, omega (arith, c .before .before .start .ensures)), λ b h ok. turn-told _ (c .before .before .start .ensures) _ 0 _ b (merge-none _ _ b (no-target b ok _ (sym (c .before .is-target .ensures) ∙ not-true _ (c .if1 .taken)))) h)
 
 returns-2 : tie.Need-returns-2
-returns-2 c = (omega arith, λ b h ok. turn-told _ (c .before .before .before .before .before .start .ensures) _ 0 _ b (merge-none _ _ b (c .before .reshape-row .ensures b h ok .missing (c .if2 .taken))) h)
+returns-2 c = ((omega arith, omega (arith, c .before .before .before .before .before .start .ensures)), λ b h ok. turn-told _ (c .before .before .before .before .before .start .ensures) _ 0 _ b (merge-none _ _ b (c .before .reshape-row .ensures b h ok .missing (c .if2 .taken))) h)
 
 returns-3 : tie.Need-returns-3
 returns-3 c = (
-  omega arith,
+  (omega arith, omega (arith, c .before .before .before .before .before .before .before .before .start .ensures)),
   λ b h ok.
       let f = c .before .before .before .before .reshape-row .ensures b h ok in
       let r : RowOf _ _ b = record { inside = f .inside (c .before .before .before .if2 .left); named = f .named (c .before .before .before .if2 .left) } in
@@ -32,7 +32,7 @@ schedule-requires c κs = (c .before .before .before .before .before .before .be
 
 returns-4 : tie.Need-returns-4
 returns-4 c = (
-  omega arith,
+  (omega arith, omega (arith, c .before .before .before .before .before .before .before .before .before .before .before .before .before .before .before .before .start .ensures)),
   λ b h ok.
       let f = c .before .before .before .before .before .before .before .before .before .before .before .before .reshape-row .ensures b h ok in
       let r : RowOf _ _ b = record { inside = f .inside (c .before .before .before .before .before .before .before .before .before .before .before .if2 .left); named = f .named (c .before .before .before .before .before .before .before .before .before .before .before .if2 .left) } in
@@ -42,7 +42,7 @@ returns-4 c = (
 
 returns-5 : tie.Need-returns-5
 returns-5 c = (
-  omega arith,
+  (omega arith, omega (arith, c .before .before .before .before .before .before .before .before .before .before .before .before .start .ensures)),
   λ b h ok.
       let f = c .before .before .before .before .before .before .before .before .reshape-row .ensures b h ok in
       let r : RowOf _ _ b = record { inside = f .inside (c .before .before .before .before .before .before .before .if2 .left); named = f .named (c .before .before .before .before .before .before .before .if2 .left) } in
@@ -51,7 +51,7 @@ returns-5 c = (
 
 returns-6 : tie.Need-returns-6
 returns-6 c = (
-  omega arith,
+  (omega arith, omega (arith, c .before .before .before .before .before .before .before .before .before .before .before .before .before .before .before .before .start .ensures)),
   λ b h ok.
       let f = c .before .before .before .before .before .before .before .before .before .before .before .before .reshape-row .ensures b h ok in
       let r : RowOf _ _ b = record { inside = f .inside (c .before .before .before .before .before .before .before .before .before .before .before .if2 .left); named = f .named (c .before .before .before .before .before .before .before .before .before .before .before .if2 .left) } in

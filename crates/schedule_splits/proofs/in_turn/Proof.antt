@@ -23,7 +23,7 @@ loop-holds : tie.Need-loop-holds Inv-loop μ-loop
 loop-holds c = (omega arith, omega arith, omega arith, refl, λ b h ok e. run-begins _ _ b e _ h ok)
 
 try-schedule-split-requires : tie.Need-try-schedule-split-requires Inv-loop μ-loop
-try-schedule-split-requires c κs = (c .before .before .before .loop .inv .3 ∙ c .before .before .before .before .before .before .before .pre .0, c .before .before .before .loop .inv .2)
+try-schedule-split-requires c κs = (c .before .before .before .loop .inv .3 ∙ c .before .before .before .before .before .before .before .pre .0, omega (arith, c .before .before .before .loop .inv .2))
 
 add-handled : tie.Need-add-handled Inv-loop μ-loop
 add-handled c = let e = c .before .turned .given .1 in
