@@ -1,10 +1,11 @@
 -- A shard's turn: its faults in order, and the board of the cut, one piece after another.
-use Prim.Native.Nat.{ℕ, _<_}
+use Prim.Native.Nat.{ℕ, _≤_, _<_}
 use mathlib.Core.Path.{_≡_, refl, ap, sym, subst, _∙_}
 use mathlib.Core.List.{List, [], _∷_, _++_}
 use mathlib.Core.Option.{none, some}
 use mathlib.Core.Bool.{Bool, true, false}
 use native.Mathlib.Omega.{arith}
+use borrow.Author.Tests.{le-leb, lt-leb}
 use lib.ListN.{length, getD}
 use Rattle.types.specs.Numbers.{Shard, Id, Height}
 use Rattle.types.specs.Shards.{leftOf, rightOf}
@@ -52,6 +53,15 @@ as-step b after r s = record { told = s .told; left = s .left }
 pub due-are : (b : Board) → targetsOf MergesDue b ≡ due merge b
 unfolding due
 due-are b = refl
+
+-- ---- the larger height, as the code asks it
+
+module _ (m n : Height) where
+  pub second-larger : m ≤ n → n ≡ larger m n
+  second-larger l = rw (le-leb m n l)
+
+  pub first-larger : n < m → m ≡ larger m n
+  first-larger l = rw (lt-leb m n l)
 
 -- ---- pooling and the family's tables do not meet
 

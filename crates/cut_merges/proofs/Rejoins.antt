@@ -72,10 +72,12 @@ module _ (b : Board) (ok : wellFormed b ≡ true) (t : Shard) (x : Id) (row : �
       unfolding rejoin
       elsewhere n h = rw (there, rejoin, seat-there, n) h
 
-      pub rejoins : onChild t (here l) ≡ true → (p : Place) → p ≡ keptOn t (seat .ready) (here l) → Holds after (putOn t (λ q. p) (getD (b .machines) row noMachine .key) b)
-          → Holds after (rejoin t keepers x b)
+      pub rejoins : onChild t (here l) ≡ true → (p was : Place) (ready : Bool) → was ≡ here l → ready ≡ seat .ready → p ≡ keptOn t ready was
+          → Holds after (putOn t (λ q. p) (getD (b .machines) row noMachine .key) b) → Holds after (rejoin t keepers x b)
       unfolding rejoin
-      rejoins y p v h = rw (there, rejoin, seat-there, y) (put-as b ok t x (keptOn t (seat .ready)) p row (f .inside l) (f .named l) v after h)
+      rejoins y p was ready ew er v h =
+          let u : p ≡ keptOn t (seat .ready) (here l) = rw (ew, er) at v in
+          rw (there, rejoin, seat-there, y) (put-as b ok t x (keptOn t (seat .ready)) p row (f .inside l) (f .named l) u after h)
 
 -- ---- what rejoining leaves alone
 

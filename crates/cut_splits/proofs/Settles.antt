@@ -4,9 +4,9 @@ use mathlib.Core.Path.{_≡_, refl}
 use mathlib.Core.Logic.{_≢_}
 use mathlib.Core.List.{List, [], _∷_}
 use mathlib.Core.Option.{some}
-use mathlib.Core.Bool.{true, false, false≢true}
+use mathlib.Core.Bool.{Bool, true, false, false≢true}
 use lib.ListN.{getD}
-use Rattle.types.specs.Numbers.{Shard, Id}
+use Rattle.types.specs.Numbers.{Shard, Id, Epoch}
 use Rattle.types.specs.Places.{isSeatedOn, isObserving, movedTo, seatedFromWatch}
 use Rattle.types.specs.declared.Place.{Place}
 use Rattle.types.specs.declared.Place.the-variants.{Pooled, Seated, Observing, Short, Other}
@@ -72,7 +72,9 @@ module _ (b : Board) (ok : wellFormed b ≡ true) (after : List ℕ) (t c : Shar
         not-watching w h = rw (there, settle, y, seat-there, w) h
 
         module _ (w : isObserving here ≡ true) where
-          pub sits : (p : Place) → p ≡ seatedFromWatch c (seat .ready) (epochOf b) here → Holds after (putOn c (λ q. p) (getD (b .machines) row noMachine .key) b)
-              → Holds after (settle t c seats x b)
+          pub sits : (p was : Place) (ready : Bool) (now : Epoch) → was ≡ here → ready ≡ seat .ready → now ≡ epochOf b → p ≡ seatedFromWatch c ready now was
+              → Holds after (putOn c (λ q. p) (getD (b .machines) row noMachine .key) b) → Holds after (settle t c seats x b)
           unfolding settle
-          sits p e h = rw (there, settle, y, seat-there, w) (put-as b ok c x (seatedFromWatch c (seat .ready) (epochOf b)) p row (f .inside l) (f .named l) e after h)
+          sits p was ready now ew er en e h =
+              let v : p ≡ seatedFromWatch c (seat .ready) (epochOf b) here = rw (ew, er, en) at e in
+              rw (there, settle, y, seat-there, w) (put-as b ok c x (seatedFromWatch c (seat .ready) (epochOf b)) p row (f .inside l) (f .named l) v after h)

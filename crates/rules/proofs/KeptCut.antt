@@ -114,10 +114,10 @@ pass : {a b : Board} {c : Shard} (x : Id) (l : List Id) → Settling a c (x ∷ 
 pass x l s = record { good = s .good; shard = s .shard; few = omega (arith, s .few); opens = s .opens; seated = s .seated; others = s .others }
 
 -- a move onto a shard, of one that was not seated there
-pub record Arrives (c : Shard) (move : Place → Place) (p : Place) : Type 0 where
-  pub keeps : Keeps move
-  pub before : isSeatedOn c p ≡ false
-  pub after : isSeatedOn c (move p) ≡ true
+record Arrives (c : Shard) (move : Place → Place) (p : Place) : Type 0 where
+  keeps : Keeps move
+  before : isSeatedOn c p ≡ false
+  after : isSeatedOn c (move p) ≡ true
 
 single : (x y : ℕ) → 1 ≤ occ y (x ∷ []) → y ≡ x
 single x y o = go (alike y x)
@@ -156,14 +156,14 @@ arrive {a} {b} {c} x l p move e v s = record {
 -- ---- CUT SPLITS
 
 -- one seated elsewhere
-pub from-seat : (c t : Shard) (move : Place → Place) (p : Place) → c ≢ t → Keeps move → ((s : ShardId) (r : Bool) (w : Stamp) → isSeatedOn c (move (Seated s r w)) ≡ true) → isSeatedOn t p ≡ true → Arrives c move p
+from-seat : (c t : Shard) (move : Place → Place) (p : Place) → c ≢ t → Keeps move → ((s : ShardId) (r : Bool) (w : Stamp) → isSeatedOn c (move (Seated s r w)) ≡ true) → isSeatedOn t p ≡ true → Arrives c move p
 from-seat c t move Pooled n k m h = absurd (false≢true h)
 from-seat c t move (Seated s r w) n k m h = record { keeps = k; before = eqb-apart (s .0) c (λ e. n (sym e ∙ eq-of (s .0) t h)); after = m s r w }
 from-seat c t move (Observing s w) n k m h = absurd (false≢true h)
 from-seat c t move Short n k m h = absurd (false≢true h)
 from-seat c t move (Other m) n k l h = absurd (false≢true h)
 
-pub watched : (c : Shard) (q : Seat) (e : Epoch) (p : Place) → isShard c ≡ true → isStamp e ≡ true → isObserving p ≡ true → Arrives c (seatedBy c q e) p
+watched : (c : Shard) (q : Seat) (e : Epoch) (p : Place) → isShard c ≡ true → isStamp e ≡ true → isObserving p ≡ true → Arrives c (seatedBy c q e) p
 watched c q e Pooled ok w h = absurd (false≢true h)
 watched c q e (Seated s r u) ok w h = absurd (false≢true h)
 watched c q e (Observing s u) ok w h = record { keeps = keeps-seatedFromWatch c ok (q .ready) e w; before = refl; after = eqb-same c }
@@ -232,11 +232,11 @@ rejoin-keeps a t keepers m x l b s = go (at x (b .machines)) refl
     go (some p) e = look p e (at x keepers)
 
 -- pooling touches no committee
-pub record Empty (t : Shard) (b : Board) : Type 0 where
-  pub good : Good b
-  pub there : at t (b .committees) ≡ some []
+record Empty (t : Shard) (b : Board) : Type 0 where
+  good : Good b
+  there : at t (b .committees) ≡ some []
 
-pub empty-place : (t : Shard) (x : Id) (b : Board) → Empty t b → Empty t (place x pooled b)
+empty-place : (t : Shard) (x : Id) (b : Board) → Empty t b → Empty t (place x pooled b)
 unfolding place
 empty-place t x b h = record { good = good-place x pooled keeps-pooled (h .good); there = h .there }
 

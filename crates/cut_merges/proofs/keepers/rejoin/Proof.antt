@@ -32,8 +32,7 @@ returns-3 c = λ b h ok l tg m z.
     let r = c .before .before .before .before .before .before .before .before .before .before .before .before .if1 .left in
     let p = ap (λ (x : Machine). x .place) (c .before .before .before .before .before .before .before .before .before .before .at2 .ensures b h (f .inside r)) in
     let y = rw p at (sym (on-child (c .before .before .before .before .before .before .before .before .before .before .before .before .before .before .before .before .before .before .args .target .0) (c .before .before .before .before .before .before .before .before .before .before .at2 .result .place) _ _ (rw (c .before .before .before .before .before .before .before .before .before .left .ensures) at (c .before .before .before .before .before .before .before .before .is-seated-on .ensures)) (rw (c .before .before .before .before .before .before .before .right .ensures) at (c .before .before .before .before .before .before .is-seated-on2 .ensures))) ∙ not-false _ (c .before .before .before .before .before .if2 .left)) in
-    let e = rw (p, ap (λ (e : Entry Seat). e .val .ready) s) at (c .before .before .before .kept-on .ensures) in
-    rejoins b ok _ _ _ f _ _ r _ m (seats-rise b ok _ l) refl y _ e (c .before .before .put-on .ensures b h ok (f .inside r) (may-rejoin b ok _ _ _ f r (family _ tg .least) z y))
+    rejoins b ok _ _ _ f _ _ r _ m (seats-rise b ok _ l) refl y _ _ _ p (ap (λ (e : Entry Seat). e .val .ready) s) (c .before .before .before .kept-on .ensures) (c .before .before .put-on .ensures b h ok (f .inside r) (may-rejoin b ok _ _ _ f r (family _ tg .least) z y))
 
 pub rejoin-spec : {M : Type 1} → statement M
 rejoin-spec =

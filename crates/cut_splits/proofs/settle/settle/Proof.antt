@@ -47,8 +47,7 @@ returns-5 c = λ b h ok l n m.
     let s = c .before .before .before .before .before .before .before .before .before .before .before .if3 .left in
     let w = rw p at (sym (c .before .before .before .before .before .before .before .before .before .before .is-observing .ensures) ∙ not-false _ (c .before .before .before .before .before .before .before .before .before .if4 .left)) in
     let ready = ap (λ (e : Entry Seat). e .val .ready) (c .before .before .before .before .before .before .before .at2 .ensures b h l (g .inside s)) in
-    let e = rw (p, ready, c .before .before .before .before .before .epoch .ensures b h) at (c .before .before .before .before .seated-from-watch .ensures) in
-    sits b ok _ _ _ _ _ _ f r y _ g s (seats-rise b ok _ l) w _ e (c .before .before .put-on2 .ensures b h ok (f .inside r) (may-sit b ok _ _ _ f r m w))
+    sits b ok _ _ _ _ _ _ f r y _ g s (seats-rise b ok _ l) w _ _ _ _ p ready (c .before .before .before .before .before .epoch .ensures b h) (c .before .before .before .before .seated-from-watch .ensures) (c .before .before .put-on2 .ensures b h ok (f .inside r) (may-sit b ok _ _ _ f r m w))
 
 pub settle-spec : {M : Type 1} → statement M
 settle-spec =
