@@ -20,11 +20,11 @@ module _ {A : Type 0} (f : A → Bool) (l : List A) where
   every-ended e = ap (every f) e
 
   module _ (x : A) (m : List A) (e : l ≡ x ∷ m) where
-    pub every-more : f x ≡ true → every f l ≡ every f m
+    every-more : f x ≡ true → every f l ≡ every f m
     unfolding every _and_
     every-more y = ap (every f) e ∙ rw y
 
-    pub every-fails : f x ≡ false → every f l ≡ false
+    every-fails : f x ≡ false → every f l ≡ false
     unfolding every _and_
     every-fails n = ap (every f) e ∙ rw n
 

@@ -152,9 +152,6 @@ module _ (b : Board) (ok : wellFormed b ≡ true) (t : Shard) where
     pub one-row : i < length (one .reshapes)
     one-row = rw (one-beside .reshapes) l
 
-    pub both-row : i < length (both .reshapes)
-    both-row = rw (both-beside .reshapes) l
-
     -- as the code read them: the other child's members, after the first child's are pooled
     pub both-held : (after : List ℕ) → Holds after (forAll (pooledUnless (reshapeIn i one .seats)) (membersOf (rightOf t) one) one) → Holds after both
     unfolding membersOf

@@ -37,7 +37,7 @@ use Rattle.cut_splits.specs.Settled.{childOf, halfOf, seatFor, turnOf}
 
 module _ (c : Shard) (half : List Id) (seats : Table Seat) (k : ℕ) where
   -- those still to come before turn k
-  abbrev pub rest : List Id
+  abbrev rest : List Id
   rest = drop k half ++ cohortFor c (drop (k - length half) seats)
 
 module _ (c : Shard) (half : List Id) (seats : Table Seat) where

@@ -54,7 +54,7 @@ module _ {A : Type 0} (k : ℕ) (t : Table A) (f : From 0 t) where
       go none q = ap length (put-is-insertAt t (from-rising 0 t f) k v q) ∙ insert-length t _ _ (first-most _ t) ∙ omega arith
       go (some w) q = length-replace k 0 v w t f q ∙ omega arith
 
-  pub remove-length : (d : A) → suc (length (remove k t)) ≡ length t + lack k t
+  remove-length : (d : A) → suc (length (remove k t)) ≡ length t + lack k t
   unfolding stands isSome
   remove-length d = go (at k t) refl
     where
@@ -115,7 +115,7 @@ module _ (t : Shard) (pos : 1 ≤ t) (height : Height) (b : Board) (h : Good b) 
 
   -- as the code counts: committees, then boundaries
   module _ (k : Kind) (old : ℕ) (e : length (recast k t height b .committees) + old ≡ familyCount t b) {n : ℕ} (en : n ≡ familyCount t b) where
-    pub committees-past : mostCommittees + old < n → false ≡ fits (recast k t height b)
+    committees-past : mostCommittees + old < n → false ≡ fits (recast k t height b)
     unfolding fits _and_
     committees-past l = rw (lt-leb (length (recast k t height b .committees)) mostCommittees (omega arith))
 
