@@ -36,9 +36,10 @@ pub fn is_batch(step: u64) -> bool {
 const NO_SUCH_STEP: u64 = 255;
 
 pub fn make(call: Call, board: &mut [u64], draws: &[u64], results: &mut [u64; 2]) -> u64 {
+    let step = call.step;
     let shard = call.shard;
     let machine = call.machine;
-    match call.step {
+    match step {
         1 => roster::roster_tick(board, results),
         2 => roster::roster_admit_split(board, shard, results),
         3 => roster::roster_admit_merge(board, shard, draws, results),

@@ -16,7 +16,6 @@ follow-calls-spec =
     Inv-loop
     μ-loop
     (λ c κs. tt)
-    (λ c κs. tt)
     (λ c. tt)
     (λ c κs. tt)
     (λ c. omega arith)
