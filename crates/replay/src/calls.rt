@@ -13,7 +13,7 @@ pub struct Call {
     pub side: u64,
 }
 
-pub fn next(fd: i32) -> Call {
+pub(crate) fn next(fd: i32) -> Call {
     let packed = input::word(fd);
     Call {
         step: packed % 256,
@@ -28,14 +28,14 @@ pub fn next(fd: i32) -> Call {
 }
 
 // A step over several shards keeps its work on those before a refused one.
-pub fn is_batch(step: u64) -> bool {
+pub(crate) fn is_batch(step: u64) -> bool {
     (8 <= step) & (step <= 11)
 }
 
 // No answer of any step.
 const NO_SUCH_STEP: u64 = 255;
 
-pub fn make(call: Call, board: &mut [u64], draws: &[u64], results: &mut [u64; 2]) -> u64 {
+pub(crate) fn make(call: Call, board: &mut [u64], draws: &[u64], results: &mut [u64; 2]) -> u64 {
     let step = call.step;
     let shard = call.shard;
     let machine = call.machine;

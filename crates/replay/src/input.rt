@@ -2,7 +2,7 @@
 ghost use Rattle.io.specs.Counts.{Counts};
 
 // A length from the file, no more than there is room for.
-pub fn bytes_within(n: u64, room: &[u8]) -> usize
+pub(crate) fn bytes_within(n: u64, room: &[u8]) -> usize
     ensures { λ r. ⌜ Counts r (now (room .entry)) ⌝ }
 {
     if (room.len() as u64) < n {
@@ -11,7 +11,7 @@ pub fn bytes_within(n: u64, room: &[u8]) -> usize
     n as usize
 }
 
-pub fn words_within(n: u64, room: &[u64]) -> usize
+pub(crate) fn words_within(n: u64, room: &[u64]) -> usize
     ensures { λ r. ⌜ Counts r (now (room .entry)) ⌝ }
 {
     if (room.len() as u64) < n {
@@ -20,7 +20,7 @@ pub fn words_within(n: u64, room: &[u64]) -> usize
     n as usize
 }
 
-pub fn word(fd: i32) -> u64 {
+pub(crate) fn word(fd: i32) -> u64 {
     let mut b = [0u8; 8];
     io::read_full(fd, &mut b);
     bytes_words::word_at(&b, 0)
@@ -36,7 +36,7 @@ fn fill(fd: i32, room: &mut [u64]) {
 }
 
 // So many words, at the start of the room.
-pub fn words(fd: i32, n: u64, room: &mut [u64]) -> usize
+pub(crate) fn words(fd: i32, n: u64, room: &mut [u64]) -> usize
     ensures { λ r. ⌜ Counts r (now (room .exit)) ⌝ }
 {
     let k = words_within(n, room);
@@ -45,7 +45,7 @@ pub fn words(fd: i32, n: u64, room: &mut [u64]) -> usize
 }
 
 // So many bytes, at the start of the room.
-pub fn bytes(fd: i32, n: u64, room: &mut [u8]) -> usize
+pub(crate) fn bytes(fd: i32, n: u64, room: &mut [u8]) -> usize
     ensures { λ r. ⌜ Counts r (now (room .exit)) ⌝ }
 {
     let k = bytes_within(n, room);

@@ -175,7 +175,7 @@ fn end(
     }
 }
 
-pub fn follow(fd: i32, tally: &mut [u64; PLACES]) {
+pub(crate) fn follow(fd: i32, tally: &mut [u64; PLACES]) {
     let mut board = board_room(0);
     let mut start = io::large_buffer();
     let long = input::word(fd) % MOST_BYTES;

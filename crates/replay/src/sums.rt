@@ -9,7 +9,7 @@ fn times_prime(h: u64) -> u64 {
 }
 
 // Of whole words; bytes past the last one do not count.
-pub fn checksum(bytes: &[u8]) -> u64 {
+pub(crate) fn checksum(bytes: &[u8]) -> u64 {
     let mut h: u64 = 14695981039346656037;
     let mut a: usize = 0;
     while 8 <= bytes.len() - a {
@@ -19,7 +19,7 @@ pub fn checksum(bytes: &[u8]) -> u64 {
     h
 }
 
-pub fn same_words(s: &[u64], t: &[u64]) -> bool {
+pub(crate) fn same_words(s: &[u64], t: &[u64]) -> bool {
     if s.len() != t.len() {
         return false;
     }

@@ -24,7 +24,7 @@ fn first_of(place: u64) -> usize
     3 * place as usize
 }
 
-pub fn add(tally: &mut [u64; PLACES], place: u64, same: bool) {
+pub(crate) fn add(tally: &mut [u64; PLACES], place: u64, same: bool) {
     let at = first_of(place);
     if same {
         count(tally, at);
@@ -33,7 +33,7 @@ pub fn add(tally: &mut [u64; PLACES], place: u64, same: bool) {
     count(tally, at + 1);
 }
 
-pub fn pass_over(tally: &mut [u64; PLACES], place: u64) {
+pub(crate) fn pass_over(tally: &mut [u64; PLACES], place: u64) {
     let at = first_of(place);
     count(tally, at + 2);
 }
@@ -77,7 +77,7 @@ fn print_row(tally: &[u64; PLACES], place: usize)
     io::write_all(STDOUT_FILENO, b" not made\n");
 }
 
-pub fn print(tally: &[u64; PLACES]) {
+pub(crate) fn print(tally: &[u64; PLACES]) {
     let mut place: usize = 0;
     while place < 18 {
         print_row(tally, place);
