@@ -9,9 +9,9 @@ use Rattle.rules.specs.WellFormed.{wellFormed}
 use Rattle.board.specs.Held.{Holds}
 use Rattle.reshapes.specs.Changes.{seatEntry}
 use Rattle.reshapes.proofs.OfReshapes.{seats-room}
-use Rattle.cohorts.proofs.Lapses.{seatsAt, Gone, none-gone, one-gone, all-gone}
-use Rattle.cohorts.proofs.lapse.release_cohort.Statement.{statement}
-use Rattle.cohorts.proofs.lapse.release_cohort.Tie as tie
+use Rattle.lapses.proofs.Lapses.{seatsAt, Gone, none-gone, one-gone, all-gone}
+use Rattle.lapses.proofs.release_cohort.Statement.{statement}
+use Rattle.lapses.proofs.release_cohort.Tie as tie
 
 abbrev Inv-loop : tie.InvT-loop
 Inv-loop board₀ target i n k₀ board k = (k ≤ n) × (n ≤ mostSeats) × (length board ≡ length board₀)

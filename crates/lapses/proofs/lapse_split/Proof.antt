@@ -3,8 +3,8 @@ use mathlib.Core.Bool.{false≢true}
 use borrow.Author.Needs.{needs}
 use Rattle.rules.specs.Reshapes.{lapse}
 use Rattle.steps.proofs.Public.{held-wide, step-answers, step-refuses}
-use Rattle.cohorts.proofs.lapse.lapse_split.Statement.{statement}
-use Rattle.cohorts.proofs.lapse.lapse_split.Tie as tie
+use Rattle.lapses.proofs.lapse_split.Statement.{statement}
+use Rattle.lapses.proofs.lapse_split.Tie as tie
 
 lapse-split-held-requires : tie.Need-lapse-split-held-requires
 lapse-split-held-requires c κs = held-wide _ (c .before .before .well-formed .ensures .yes (c .before .if1 .taken))

@@ -1,9 +1,9 @@
 use mathlib.Core.Path.{sym, _∙_}
 use borrow.Author.Tests.{not-true, not-false}
 use borrow.Author.Needs.{needs}
-use Rattle.cohorts.proofs.Lapses.{no-target, no-reshape, a-merge, lapsed}
-use Rattle.cohorts.proofs.lapse.lapse_split_held.Statement.{statement}
-use Rattle.cohorts.proofs.lapse.lapse_split_held.Tie as tie
+use Rattle.lapses.proofs.Lapses.{no-target, no-reshape, a-merge, lapsed}
+use Rattle.lapses.proofs.lapse_split_held.Statement.{statement}
+use Rattle.lapses.proofs.lapse_split_held.Tie as tie
 
 returns : tie.Need-returns
 returns c = λ b h ok. no-target b ok _ _ _ (sym (c .before .before .is-target .ensures) ∙ not-true _ (c .before .if1 .taken)) h (c .refusal .ensures)

@@ -13,9 +13,9 @@ use Rattle.rules.specs.Moves.{says}
 use Rattle.board.specs.Held.{Holds, noSeat}
 use Rattle.reshapes.proofs.OfReshapes.{seats-room}
 use Rattle.pool.proofs.Pools.{bit-most}
-use Rattle.cohorts.proofs.Lapses.{seatsAt, count-next, count-end}
-use Rattle.cohorts.proofs.lapse.observing.Statement.{statement}
-use Rattle.cohorts.proofs.lapse.observing.Tie as tie
+use Rattle.lapses.proofs.Lapses.{seatsAt, count-next, count-end}
+use Rattle.lapses.proofs.observing.Statement.{statement}
+use Rattle.lapses.proofs.observing.Tie as tie
 
 abbrev Inv-loop : tie.InvT-loop
 Inv-loop board target i n r₀ k₀ r k = (k ≤ n) × (n ≤ mostSeats) × (r ≤ k)
