@@ -1,7 +1,7 @@
 // A committee without those who have a seat in a reshape: one pass over its members.
 use board::committees;
-use board::layout::COMMITTEES_AT;
 use board::layout::COMMITTEE_WIDTH;
+use board::layout::COMMITTEES_AT;
 use board::layout::MEMBERS_AT;
 use board::layout::MEMBERS_SIZE;
 use board::layout::MOST_COMMITTEES;
