@@ -38,13 +38,14 @@ loop-holds c = (
 )
 
 add-k : tie.Need-add-k Inv-loop μ-loop
-add-k c = omega (arith, c .bit .ensures, bit-most (not (c .before .has-seat .result)))
+add-k c = let one : c .bit .result ≤ 1 = rw (c .bit .ensures) (bit-most _) in omega arith
 
 loop-again : tie.Need-loop-again Inv-loop μ-loop
 loop-again c =
     let a = c .before .before .before .before .before .before .before .before .before .before .loop in
-    let p = c .before .before .before .before .before .before .before .before .before .before .before .before .before .before .before .args in (
-      omega (arith, c .bit .ensures, bit-most (not (c .before .has-seat .result))),
+    let p = c .before .before .before .before .before .before .before .before .before .before .before .before .before .before .before .args in
+    let one : c .bit .result ≤ 1 = rw (c .bit .ensures) (bit-most _) in (
+      omega arith,
       omega arith,
       a .inv .2,
       c .before .before .before .before .before .put-member .kept .0 ∙ a .inv .3,
