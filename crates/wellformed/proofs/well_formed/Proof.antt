@@ -1,8 +1,8 @@
 use mathlib.Core.Path.{refl}
 use native.Mathlib.Omega.{arith}
 use Rattle.board.specs.Layout.{machinesAt, committeesAt, boundsAt, rotationsAt, reshapesAt, boardSize}
-use Rattle.wellformed.proofs.Turns.{section-there, words-other, words-are}
-use Rattle.wellformed.proofs.Decides.{words-all}
+use Rattle.wellformed.proofs.Sections.{section-there, words-other, words-are}
+use Rattle.word_tests.proofs.Decides.{words-all}
 use Rattle.wellformed.proofs.Decided.{tells}
 use borrow.Author.Needs.{needs}
 use Rattle.wellformed.proofs.well_formed.Statement.{statement}
