@@ -16,7 +16,7 @@ use Rattle.board.specs.Held.{roomyCommittee, roomyReshape}
 use Rattle.row_tests.specs.declared.RowKind.{RowKind}
 use Rattle.row_tests.specs.declared.RowKind.the-variants.{Machines, Committees, Boundaries, Rotations, Reshapes}
 use Rattle.row_tests.specs.Rows.{widthOf}
-use Rattle.snapshot.specs.Packed.{committee, reshape}
+use Rattle.packing.specs.Packed.{committee, reshape}
 
 abbrev pub RowOf : RowKind → Type 0
 RowOf Machines = Entry Place

@@ -37,7 +37,7 @@ ghost use Rattle.rules.specs.Board.{Board};
 ghost use Rattle.rules.specs.Snapshot.{snapshotOf};
 ghost use Rattle.rules.specs.WellFormed.{wellFormed};
 ghost use Rattle.board.specs.Layout.{committeeWidth, reshapeWidth, machinesAt, boardSize, encode};
-ghost use Rattle.snapshot.specs.Packed.{flat, committee, reshape};
+ghost use Rattle.packing.specs.Packed.{flat, committee, reshape};
 ghost use Rattle.row_tests.specs.Rows.{widthOf};
 ghost use Rattle.unpacking.specs.AsWords.{AsWords};
 ghost use Rattle.unpacking.specs.Parts.{PartRead, plain, Wide, Listed};
