@@ -1,11 +1,13 @@
 // Tests of lent words: in a range, zero, distinct, rising. They are joined by `&` and `|`, which leave no branch.
 ghost use mathlib.Core.Path.{_≡_};
-ghost use mathlib.Core.Bool.{not};
+ghost use mathlib.Core.Bool.{not, _||_};
 ghost use Prim.Native.Nat.{_+_};
 ghost use lib.ListN.{length};
 ghost use Rattle.rules.specs.Lists.{has, distinct};
 ghost use Rattle.rules.specs.WellFormed.{within};
 ghost use Rattle.word_tests.specs.Tests.{at, allZero, rises, idsOk};
+
+const MARKS: usize = 512;
 
 pub fn inside(low: u64, high: u64, x: u64) -> bool
     ensures { λ r. ⌜ r ≡ within low high x ⌝ }
@@ -37,17 +39,31 @@ fn lacking(x: u64, t: &[u64]) -> bool
     ok
 }
 
-// Each id against those after it: quadratic, and plain.
+// Asked only of an id whose mark is taken.
+fn is_new(marked: bool, x: u64, rest: &[u64]) -> bool
+    ensures { λ r. ⌜ r ≡ (not marked || not (has x (now (rest .entry)))) ⌝ }
+{
+    if marked {
+        return lacking(x, rest);
+    }
+    true
+}
+
+// An id's mark is its last nine bits: each id is held against those after it only where one of them has its mark.
 fn all_distinct(t: &[u64]) -> bool
     ensures { λ r. ⌜ r ≡ distinct (now (t .entry)) ⌝ }
 {
-    let mut i = 0;
-    while i < t.len() {
+    let mut marks = [false; MARKS];
+    let mut i = t.len();
+    while 0 < i {
+        let rest = i;
+        i -= 1;
         let x = t[i];
-        i += 1;
-        if !lacking(x, &t[i..]) {
+        let mark = (x % 512) as usize;
+        if !is_new(marks[mark], x, &t[rest..]) {
             return false;
         }
+        marks[mark] = true;
     }
     true
 }

@@ -1,58 +1,51 @@
 use borrow.Author.Needs.{needs}
-use Prim.Native.Nat.{_+_, _-_, _≤_}
-use mathlib.Core.Path.{_≡_, refl}
+use Prim.Native.Nat.{ℕ, _≤_}
+use mathlib.Core.Path.{_≡_, refl, sym, subst, _∙_}
+use mathlib.Core.List.{List}
+use mathlib.Core.Bool.{Bool, true}
 use native.Mathlib.Omega.{arith}
 use borrow.Author.Tests.{not-true, not-false}
-use lib.ListN.{length, drop}
+use lib.ListN.{length, drop, length-set}
 use Rattle.rules.specs.Lists.{distinct}
-use Rattle.word_tests.proofs.Loops.{more, fails, done, lacks, distinct-nil, distinct-cons, on-rest}
+use Rattle.word_tests.proofs.Marks.{Marked, none-left, distinct-end, turn-marks, turn-goes-on, turn-fails}
 use Rattle.word_tests.proofs.all_distinct.Statement.{statement}
 use Rattle.word_tests.proofs.all_distinct.Tie as tie
 
+-- the words from i on are distinct, and each has its mark
+record Seen (t : List ℕ) (marks : List Bool) (i : ℕ) : Type 0 where
+  within : i ≤ length t
+  long : length marks ≡ 512
+  apart : distinct (drop i t) ≡ true
+  marked : Marked marks (drop i t)
+
 abbrev Inv-loop : tie.InvT-loop
-Inv-loop t i₀ i = (i ≤ length t) × (distinct t ≡ distinct (drop i t))
+Inv-loop t marks₀ i₀ marks i = Seen t marks i
 
 abbrev μ-loop : tie.MeasureT-loop
-μ-loop t i₀ i = length t - i
+μ-loop t marks₀ i₀ marks i = i
 
 loop-holds : tie.Need-loop-holds Inv-loop μ-loop
-loop-holds c = (omega arith, refl)
-
-mul-x : tie.Need-mul-x Inv-loop μ-loop
-mul-x c = search needs
-
-shared-slice-read-x : tie.Need-shared-slice-read-x Inv-loop μ-loop
-shared-slice-read-x c = search needs
-
-add-i : tie.Need-add-i Inv-loop μ-loop
-add-i c = search needs
-
-mul-lacking : tie.Need-mul-lacking Inv-loop μ-loop
-mul-lacking c = search needs
-
-sub-lacking : tie.Need-sub-lacking Inv-loop μ-loop
-sub-lacking c = search needs
-
-part-lacking-start : tie.Need-part-lacking-start Inv-loop μ-loop
-part-lacking-start c = search needs
-
-part-lacking-end : tie.Need-part-lacking-end Inv-loop μ-loop
-part-lacking-end c = search needs
-
-lacking-requires : tie.Need-lacking-requires Inv-loop μ-loop
-lacking-requires c κs = search needs
+loop-holds c = record { within = omega arith; long = refl; apart = distinct-end (c .before .args .t .now); marked = λ y h. none-left (c .before .args .t .now) y h }
 
 returns : tie.Need-returns Inv-loop μ-loop
-returns c = fails distinct lacks distinct-nil distinct-cons _ _ (c .before .before .before .before .loop-test .taken) (c .before .before .before .before .before .loop .inv .1) (on-rest (lacks _) (c .before .before .before .before .before .before .before .args .t .now) (c .before .before .before .before .before .loop .i + 1) _ _ (c .before .lacking .ensures) (not-true _ (c .if1 .taken)))
-
-loop-less : tie.Need-loop-less Inv-loop μ-loop
-loop-less c = search needs
+returns c =
+    let l = c .before .before .before .before .before .loop in
+    let s = l .inv in
+    turn-fails _ (l .i) (l .marks) (c .before .before .before .before .loop-test .taken) (s .within) (s .long) (s .apart) (s .marked) _ (c .before .is-new .ensures) (not-true _ (c .if1 .taken))
 
 loop-again : tie.Need-loop-again Inv-loop μ-loop
-loop-again c = (omega arith, more distinct lacks distinct-nil distinct-cons _ _ (c .before .before .before .before .loop-test .taken) (c .before .before .before .before .before .loop .inv .1) (on-rest (lacks _) (c .before .before .before .before .before .before .before .args .t .now) (c .before .before .before .before .before .loop .i + 1) _ _ (c .before .lacking .ensures) (not-false _ (c .if1 .left))))
+loop-again c =
+    let l = c .before .before .before .before .before .loop in
+    let s = l .inv in
+    let more = c .before .before .before .before .loop-test .taken in record {
+      within = omega (arith, s .within);
+      long = length-set (l .marks) _ true ∙ s .long;
+      apart = turn-goes-on _ (l .i) (l .marks) more (s .within) (s .long) (s .apart) (s .marked) _ (c .before .is-new .ensures) (not-false _ (c .if1 .left));
+      marked = turn-marks _ (l .i) (l .marks) more (s .within) (s .long) (s .apart) (s .marked);
+    }
 
 returns-2 : tie.Need-returns-2 Inv-loop μ-loop
-returns-2 c = done distinct lacks distinct-nil distinct-cons _ _ (c .loop-test .left) (c .before .loop .inv .1)
+returns-2 c = let none : c .before .loop .i ≡ 0 = omega (arith, c .loop-test .left) in sym (subst (λ (i : ℕ). distinct (drop i (c .before .before .before .args .t .now)) ≡ true) none (c .before .loop .inv .apart))
 
 pub all-distinct-spec : {M : Type 1} → statement M
 all-distinct-spec =
@@ -61,15 +54,17 @@ all-distinct-spec =
     Inv-loop
     μ-loop
     loop-holds
-    mul-x
-    shared-slice-read-x
-    add-i
-    mul-lacking
-    sub-lacking
-    part-lacking-start
-    part-lacking-end
-    lacking-requires
+    (λ c. omega arith)
+    (λ c. search needs)
+    (λ c. search needs)
+    (λ c. search needs)
+    (λ c. search needs)
+    (λ c. search needs)
+    (λ c. search needs)
+    (λ c. search needs)
+    (λ c κs. search needs)
     returns
-    loop-less
+    (λ c. search needs)
+    (λ c. omega arith)
     loop-again
     returns-2)
