@@ -21,6 +21,7 @@ use Rattle.rules.specs.WellFormed.{within, isStamp, goodOption, goodPlace, good
 use Rattle.rules.specs.Snapshot.{flagOf, valueOf, placeWords, machineWords, boundaryWords, rotationWords, isOne}
 use Rattle.rules.proofs.Tests.{and-parts, and-joins, all-parts, all-joins}
 use Rattle.tables.specs.Rows.{pad}
+use Rattle.shifts.proofs.Parts.{gets-is, gets-all}
 use Rattle.board.specs.Layout.{machineWidth, membersAt, committeeWidth, boundaryWidth, rotationWidth, committeeRow}
 use Rattle.board.proofs.Widths.{machine-wide, committee-wide, boundary-wide, rotation-wide}
 use Rattle.word_tests.specs.Tests.{at, between, allPass, anyPass, idsOk}
@@ -29,21 +30,6 @@ use Rattle.word_tests.proofs.Tests.{Some, pass-parts, pass-joins, any-cases, an
 use Rattle.word_tests.proofs.Decides.{Words, words-cut, word-at, Held, Decides, heads, ids-decides}
 
 -- ---- parts of lists
-
--- n words from i on
-abbrev pub gets : ℕ → ℕ → List ℕ → List ℕ
-gets i zero t = []
-gets i (suc n) t = at t i ∷ gets (suc i) n t
-
-pub gets-is : (n i : ℕ) (t : List ℕ) → i + n ≤ length t → drop i t ≡ gets i n t ++ drop (i + n) t
-gets-is zero i t h = let e : i + 0 ≡ i = omega arith in rw e
-gets-is (suc n) i t h =
-    let e : suc i + n ≡ i + suc n = omega arith in
-    drop-cons t i 0 (omega arith) ∙ ap (λ (u : List ℕ). at t i ∷ u) (gets-is n (suc i) t (omega arith) ∙ ap (λ (k : ℕ). gets (suc i) n t ++ drop k t) e)
-
-pub gets-all : (n : ℕ) (t : List ℕ) → length t ≡ n → t ≡ gets 0 n t
-gets-all n t h =
-    gets-is n 0 t (omega arith) ∙ ap (λ (u : List ℕ). gets 0 n t ++ u) (drop-of-length-le t {i = 0 + n} (omega arith)) ∙ append-nil (gets 0 n t)
 
 pub between-length : (a e : ℕ) (t : List ℕ) → e ≤ length t → length (between a e t) ≡ e - a
 between-length a e t h = length-take-le (e - a) (drop a t) (omega (arith, length-drop a t))

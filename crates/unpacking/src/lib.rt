@@ -27,7 +27,7 @@ use board::layout::SETTINGS_END;
 use bytes_words::get_words;
 use bytes_words::word_at;
 use row_tests::RowKind;
-use tables::clear;
+use shifts::clear;
 ghost use mathlib.Core.Path.{_≡_};
 ghost use mathlib.Core.List.{List, _++_};
 ghost use mathlib.Core.Bool.{true};

@@ -11,12 +11,13 @@ use Rattle.rules.specs.WellFormed.{goodSettings}
 use Rattle.rules.specs.Snapshot.{settingsWords}
 use Rattle.rules.proofs.Tests.{all-parts, all-joins}
 use Rattle.tables.specs.Rows.{pad}
+use Rattle.shifts.proofs.Parts.{gets, gets-is}
 use Rattle.board.specs.Layout.{machinesAt, settingsTable}
 use Rattle.board.proofs.Widths.{settings-wide}
 use Rattle.word_tests.specs.Tests.{at, between}
 use Rattle.word_tests.proofs.Tests.{pass-parts, pass-joins}
 use Rattle.word_tests.proofs.Decides.{Words, Held, Decides, padded, zero-complete}
-use Rattle.row_tests.proofs.Rows.{gets, gets-is, to-end}
+use Rattle.row_tests.proofs.Rows.{to-end}
 use Rattle.wellformed.specs.Check.{numbersOk, settingsOk}
 
 settings-sound : (t : List ℕ) → Words t → length t ≡ machinesAt → settingsOk t ≡ true → Held settingsTable goodSettings t

@@ -1,7 +1,7 @@
-use Rattle.tables.proofs.Words.{closed}
+use Rattle.shifts.proofs.Words.{closed}
 use borrow.Author.Needs.{needs}
-use Rattle.tables.proofs.close_gap.Statement.{statement}
-use Rattle.tables.proofs.close_gap.Tie as tie
+use Rattle.shifts.proofs.close_gap.Statement.{statement}
+use Rattle.shifts.proofs.close_gap.Tie as tie
 
 add-shift-down : tie.Need-add-shift-down
 add-shift-down c = search needs

@@ -5,10 +5,10 @@ use mathlib.Core.List.{List, [], _∷_, _++_, append-assoc}
 use native.Mathlib.Omega.{arith}
 use native.Mathlib.Numerals.{add-one}
 use lib.ListN.{length, getD, set, take, drop, take-append-drop, length-append, length-drop, replicate, List·getD-append}
-use lib.Seq.{take-suc, drop-cons, append-snoc, set-at, getD-take, getD-drop, getD-append-add, length-take-le, drop-drop, take-append-add, drop-append-seam, take-append-seam, drop-at}
+use lib.Seq.{take-suc, take-add, take-all, take-take, take-at, take-append-le, drop-append-le, drop-cons, append-snoc, set-at, getD-take, getD-drop, getD-append-add, length-take-le, drop-drop, take-append-add, drop-append-seam, take-append-seam, drop-at}
 use borrow.Rule.Slice.PartMut.{putMid}
-use Rattle.tables.proofs.Parts.{mid-read, mid-put}
-use Rattle.tables.specs.Moved.{movedUp, movedDown}
+use Rattle.shifts.proofs.Parts.{mid-read, mid-put}
+use Rattle.shifts.specs.Moved.{movedUp, movedDown, movedTo}
 
 pub up-none : (t : List ℕ) (to by : ℕ) → t ≡ movedUp t to to by
 up-none t to by = let z : to - to ≡ 0 = omega arith in rw z (sym (take-append-drop (to + by) t))
@@ -58,6 +58,75 @@ down-more t from k by h l n =
     ∙ ap (λ (x : List ℕ). set x (k - by) (getD t k 0)) cut
     ∙ set-at (A ++ B) (getD t (k - by) 0) (drop (suc (k - by)) t) (getD t k 0) (k - by) ab
     ∙ rw (g, e) (simp append-assoc)
+
+-- n words more at once
+pub up-many : (t : List ℕ) (k to by n : ℕ) → n ≤ k → k ≤ to → to + by ≤ length t → movedTo (movedUp t k to by) (k - n) (k - n + by) n ≡ movedUp t (k - n) to by
+up-many t k to by n h l m =
+    let A : List ℕ = take (k + by) t in
+    let B : List ℕ = take (to - k) (drop k t) ++ drop (to + by) t in
+    let a : length A ≡ k + by = length-take-le (k + by) t (omega arith) in
+    let front : take (k - n + by) (A ++ B) ≡ take (k - n + by) t = take-append-le (k - n + by) A B (omega arith) ∙ take-take (k - n + by) (k + by) t (omega arith) in
+    let part : take n (drop (k - n) (A ++ B)) ≡ take n (drop (k - n) t) =
+    let x : length (drop (k - n) A) ≡ n + by = omega (arith, length-drop (k - n) A) in
+    let y : drop (k - n) t ≡ drop (k - n) A ++ drop (k + by) t = ap (drop (k - n)) (sym (take-append-drop (k + by) t)) ∙ drop-append-le (k - n) A (drop (k + by) t) (omega arith) in
+    ap (take n) (drop-append-le (k - n) A B (omega arith))
+    ∙ take-append-le n (drop (k - n) A) B (omega arith)
+    ∙ sym (ap (take n) y ∙ take-append-le n (drop (k - n) A) (drop (k + by) t) (omega arith)) in
+    let back : drop (k - n + by + n) (A ++ B) ≡ B = drop-at A B (k - n + by + n) (omega arith) in
+    let whole : take (to - (k - n)) (drop (k - n) t) ≡ take n (drop (k - n) t) ++ take (to - k) (drop k t) =
+    let x : to - (k - n) ≡ n + (to - k) = omega arith in
+    let y : k - n + n ≡ k = omega arith in
+    rw x (take-add n (to - k) (drop (k - n) t)) ∙ ap (λ (u : List ℕ). take n (drop (k - n) t) ++ take (to - k) u) (drop-drop n (k - n) t ∙ ap (λ (i : ℕ). drop i t) y) in
+    rw (front, part, back, whole) (simp append-assoc)
+
+pub down-many : (t : List ℕ) (from k by n : ℕ) → by ≤ from → from ≤ k → k + n ≤ length t → movedTo (movedDown t from k by) k (k - by) n ≡ movedDown t from (k + n) by
+down-many t from k by n h l m =
+    let A : List ℕ = take (from - by) t in
+    let B : List ℕ = take (k - from) (drop from t) in
+    let C : List ℕ = drop (k - by) t in
+    let a : length A ≡ from - by = length-take-le (from - by) t (omega arith) in
+    let b : length B ≡ k - from = length-take-le (k - from) (drop from t) (omega (arith, length-drop from t)) in
+    let ab : length (A ++ B) ≡ k - by = omega (arith, length-append A B) in
+    let s : A ++ (B ++ C) ≡ (A ++ B) ++ C = sym (append-assoc A B C) in
+    let rest : drop (k - by) (A ++ (B ++ C)) ≡ C = ap (drop (k - by)) s ∙ drop-at (A ++ B) C (k - by) ab in
+    let front : take (k - by) (A ++ (B ++ C)) ≡ A ++ B = ap (take (k - by)) s ∙ take-at (A ++ B) C (k - by) ab in
+    let there : drop k (A ++ (B ++ C)) ≡ drop k t =
+    let i : k - by + by ≡ k = omega arith in
+    ap (λ (j : ℕ). drop j (A ++ (B ++ C))) (sym i) ∙ sym (drop-drop by (k - by) (A ++ (B ++ C))) ∙ ap (drop by) rest ∙ drop-drop by (k - by) t ∙ ap (λ (j : ℕ). drop j t) i in
+    let back : drop (k - by + n) (A ++ (B ++ C)) ≡ drop (k + n - by) t =
+    let i : k - by + n ≡ k + n - by = omega arith in
+    sym (drop-drop n (k - by) (A ++ (B ++ C))) ∙ ap (drop n) rest ∙ drop-drop n (k - by) t ∙ ap (λ (j : ℕ). drop j t) i in
+    let whole : take (k + n - from) (drop from t) ≡ B ++ take n (drop k t) =
+    let x : k + n - from ≡ k - from + n = omega arith in
+    let y : from + (k - from) ≡ k = omega arith in
+    rw x (take-add (k - from) n (drop from t)) ∙ ap (λ (u : List ℕ). B ++ take n u) (drop-drop (k - from) from t ∙ ap (λ (i : ℕ). drop i t) y) in
+    rw (front, there, back, whole) (simp append-assoc)
+
+-- one move after another is one move
+pub up-joins : (t : List ℕ) (from k to by : ℕ) → from ≤ k → k ≤ to → to + by ≤ length t → movedUp (movedUp t k to by) from k by ≡ movedUp t from to by
+up-joins t from k to by h l m =
+    let e : k - (k - from) ≡ from = omega arith in
+    let d : k + by ≡ from + by + (k - from) = omega arith in
+    let s : List ℕ = movedUp t k to by in
+    ap (λ (i : ℕ). take (from + by) s ++ (take (k - from) (drop from s) ++ drop i s)) d
+    ∙ ap (λ (i : ℕ). movedTo s i (i + by) (k - from)) (sym e)
+    ∙ up-many t k to by (k - from) (omega arith) l m
+    ∙ ap (λ (i : ℕ). movedUp t i to by) e
+
+pub down-joins : (t : List ℕ) (from k to by : ℕ) → by ≤ from → from ≤ k → k ≤ to → to ≤ length t → movedDown (movedDown t from k by) k to by ≡ movedDown t from to by
+down-joins t from k to by h l m n =
+    let e : k + (to - k) ≡ to = omega arith in
+    let d : to - by ≡ k - by + (to - k) = omega arith in
+    ap (λ (i : ℕ). take (k - by) (movedDown t from k by) ++ (take (to - k) (drop k (movedDown t from k by)) ++ drop i (movedDown t from k by))) d
+    ∙ down-many t from k by (to - k) h l (omega arith)
+    ∙ ap (λ (i : ℕ). movedDown t from i by) e
+
+-- the part that the code reads and the one that it writes
+pub moved-part : (t v w : List ℕ) (from to : ℕ) → from ≤ length t → w ≡ take 8 (take (length t - from) (drop from t)) → v ≡ w → putMid to (to + 8 - to) t v ≡ movedTo t from to 8
+moved-part t v w from to h e q =
+    let k : to + 8 - to ≡ 8 = omega arith in
+    let r : take (length t - from) (drop from t) ≡ drop from t = take-all (length t - from) (drop from t) (omega (arith, length-drop from t)) in
+    rw (k, drop-drop 8 to t, q, e, r)
 
 -- the same as the code has it
 pub up-turn : (s t : List ℕ) (k to by : ℕ) → t ≡ movedUp s k to by → 0 < k → k ≤ to → to + by ≤ length s → set t (k - 1 + by) (getD t (k - 1) 0) ≡ movedUp s (k - 1) to by

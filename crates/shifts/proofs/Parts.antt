@@ -1,12 +1,38 @@
 -- A part of a list: read where it stands, and put back as another.
-use Prim.Native.Nat.{ℕ, suc, _+_, _<_}
-use mathlib.Core.Path.{_≡_, ap, _∙_}
+use Prim.Native.Nat.{ℕ, zero, suc, _+_, _≤_, _<_}
+use mathlib.Core.Path.{_≡_, refl, ap, sym, _∙_}
 use mathlib.Core.List.{List, [], _∷_, _++_, append-assoc, append-nil}
 use native.Mathlib.Omega.{arith}
 use native.Mathlib.Nat.{zero-add}
 use lib.ListN.{length, getD, set, take, drop, length-append, drop-of-length-le, List·getD-append}
-use lib.Seq.{take-at, drop-at, getD-append-add, set-append-left, sets, sets-eq}
+use lib.Seq.{drop-cons, take-at, drop-at, getD-append-add, set-append-left, sets, sets-eq}
 use borrow.Rule.Slice.PartMut.{putMid}
+
+-- ---- words by their places
+
+-- n words from i on
+abbrev pub gets : ℕ → ℕ → List ℕ → List ℕ
+gets i zero t = []
+gets i (suc n) t = getD t i 0 ∷ gets (suc i) n t
+
+pub gets-is : (n i : ℕ) (t : List ℕ) → i + n ≤ length t → drop i t ≡ gets i n t ++ drop (i + n) t
+gets-is zero i t h = let e : i + 0 ≡ i = omega arith in rw e
+gets-is (suc n) i t h =
+    let e : suc i + n ≡ i + suc n = omega arith in
+    drop-cons t i 0 (omega arith) ∙ ap (λ (u : List ℕ). getD t i 0 ∷ u) (gets-is n (suc i) t (omega arith) ∙ ap (λ (k : ℕ). gets (suc i) n t ++ drop k t) e)
+
+pub gets-all : (n : ℕ) (t : List ℕ) → length t ≡ n → t ≡ gets 0 n t
+gets-all n t h =
+    gets-is n 0 t (omega arith) ∙ ap (λ (u : List ℕ). gets 0 n t ++ u) (drop-of-length-le t {i = 0 + n} (omega arith)) ∙ append-nil (gets 0 n t)
+
+gets-length : (n i : ℕ) (t : List ℕ) → length (gets i n t) ≡ n
+gets-length zero i t = refl
+gets-length (suc n) i t = ap suc (gets-length n (suc i) t)
+
+pub gets-take : (n : ℕ) (t : List ℕ) → n ≤ length t → gets 0 n t ≡ take n t
+gets-take n t h = sym (ap (take n) (gets-is n 0 t (omega arith)) ∙ take-at (gets 0 n t) (drop (0 + n) t) n (gets-length n 0 t))
+
+-- ---- a part
 
 pub mid-read : (P F R l : List ℕ) (a k : ℕ) → l ≡ P ++ (F ++ R) → length P ≡ a → length F ≡ k → take k (drop a l) ≡ F
 mid-read P F R l a k e la lk = rw (e, drop-at P (F ++ R) a la) (take-at F R k lk)

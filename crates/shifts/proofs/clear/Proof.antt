@@ -5,8 +5,8 @@ use native.Mathlib.Omega.{arith}
 use borrow.Author.Needs.{needs}
 use borrow.Author.Fill.{fill-more}
 use lib.ListN.{length, set, drop, replicate, length-set, drop-of-length-le}
-use Rattle.tables.proofs.clear.Statement.{statement}
-use Rattle.tables.proofs.clear.Tie as tie
+use Rattle.shifts.proofs.clear.Statement.{statement}
+use Rattle.shifts.proofs.clear.Tie as tie
 
 abbrev Inv-loop : tie.InvT-loop
 Inv-loop t₀ i₀ t i = (i ≤ length t₀) × (length t ≡ length t₀) × (t ≡ replicate i 0 ++ drop i t₀)

@@ -1,7 +1,7 @@
-use Rattle.tables.proofs.Words.{opened}
+use Rattle.shifts.proofs.Words.{opened}
 use borrow.Author.Needs.{needs}
-use Rattle.tables.proofs.open_gap.Statement.{statement}
-use Rattle.tables.proofs.open_gap.Tie as tie
+use Rattle.shifts.proofs.open_gap.Statement.{statement}
+use Rattle.shifts.proofs.open_gap.Tie as tie
 
 shift-up-requires : tie.Need-shift-up-requires
 shift-up-requires c κs = search needs
