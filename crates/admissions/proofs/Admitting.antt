@@ -25,8 +25,9 @@ use Rattle.board.proofs.Fitting.{held-as}
 use Rattle.steps.specs.Inner.{outcome, Step}
 use Rattle.sampling.specs.declared.Reader.{Reader}
 use Rattle.gathering.specs.Gathered.{Drew, Lacks, lacking, large}
-use Rattle.admissions.specs.Kept.{seatsOf}
-use Rattle.admissions.specs.Granted.{Grants, admitsKept, mergeGranted}
+use Rattle.keepers.specs.Kept.{seatsOf}
+use Rattle.families.specs.Faults.{Grants}
+use Rattle.admissions.specs.Granted.{admitsKept, mergeGranted}
 use Rattle.admissions.specs.Seated.{rowFor, opened, withSeatsAt}
 use Rattle.admissions.proofs.Opening.{seatsAt, opened-is-put, opened-row, opened-seats, opened-seated}
 

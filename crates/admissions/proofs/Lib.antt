@@ -1,4 +1,2 @@
-pub mod Refusing
-pub mod Drawing
 pub mod Opening
 pub mod Admitting

@@ -1,6 +1,6 @@
 // The admissions of a split and of a merge. Each step plans, then applies: every refusal comes before the first write.
 use board::layout::MOST_RESHAPES;
-use faults::Admission;
+use families::Admission;
 use keepers::KEEPERS_ROOM;
 use keepers::Keepers;
 use reshapes::fields;
@@ -23,11 +23,9 @@ ghost use Rattle.board.specs.Layout.{boardSize};
 ghost use Rattle.board.specs.Held.{Holds};
 ghost use Rattle.board.specs.Permitted.{PermittedStep};
 ghost use Rattle.steps.specs.Inner.{Step, Steps};
-ghost use Rattle.admissions.specs.Kept.{keepersRoom};
+ghost use Rattle.keepers.specs.Kept.{keepersRoom};
 ghost use Rattle.admissions.specs.Granted.{admitsKept, mergeGranted};
 
-mod faults;
-mod keepers;
 mod seating;
 
 // ---- A split
@@ -37,7 +35,7 @@ pub fn admit_split_held(board: &mut [u64], target: ShardId) -> Outcome
     requires { ⌜ length (now board) ≡ boardSize ⌝ }
     ensures { λ r. ⌜ Steps (admitSplit (target .0)) (now (board .entry)) (now (board .exit)) r ⌝ }
 {
-    let told = faults::admission_faults(board, false, target);
+    let told = families::admission_faults(board, false, target);
     match told {
         Admission::Granted => {
             if MOST_RESHAPES <= fields::count(board) {
@@ -103,7 +101,7 @@ pub fn admit_merge_held(board: &mut [u64], target: ShardId, draws: &[u64]) -> Ou
     requires { ⌜ length (now board) ≡ boardSize ⌝ }
     ensures { λ r. ⌜ Steps (admitMerge (target .0) (now (draws .entry))) (now (board .entry)) (now (board .exit)) r ⌝ }
 {
-    let told = faults::admission_faults(board, true, target);
+    let told = families::admission_faults(board, true, target);
     match told {
         Admission::Granted => merge_granted(board, target, draws),
         Admission::Refused(answer) => steps::refusal(answer),

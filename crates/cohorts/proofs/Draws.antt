@@ -40,7 +40,7 @@ use Rattle.board.proofs.Moves.{members-at, members-none}
 use Rattle.pool.proofs.Pools.{keys-here, keys-past}
 use Rattle.rows.proofs.Asked.{holds-none}
 use Rattle.steps.specs.Inner.{outcome, Step}
-use Rattle.cohorts.proofs.Lapses.{splits-unless}
+use Rattle.lapses.proofs.Lapses.{splits-unless}
 
 -- ---- the pool, as a loop gathers it
 

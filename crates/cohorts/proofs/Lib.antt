@@ -1,3 +1,2 @@
-pub mod Lapses
 pub mod Watches
 pub mod Draws

@@ -35,7 +35,7 @@ use Rattle.board.proofs.Fitting.{held-as, insert-length}
 use Rattle.board.proofs.Keyed.{update-is-change, committees-rise, reshapes-rise}
 use Rattle.board.proofs.Moves.{place-none}
 use Rattle.reshapes.proofs.SeatMoves.{seat-opened}
-use Rattle.cohorts.proofs.Lapses.{seatsAt}
+use Rattle.lapses.proofs.Lapses.{seatsAt}
 
 -- ---- one id
 

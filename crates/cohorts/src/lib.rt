@@ -1,4 +1,3 @@
-// The cohort of a split: drawn from the pool, and sent back.
+// The cohort of a split: drawn from the pool, and set to watch.
 pub mod draw;
-pub mod lapse;
 pub mod watch;

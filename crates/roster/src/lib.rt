@@ -194,7 +194,7 @@ pub extern "C" fn roster_draw_cohort(
 pub extern "C" fn roster_lapse(board: &mut [u64], target: u64, results: &mut [u64; 2]) -> u64
     ensures { λ r. ⌜ ExportedStep (lapse target) (now (board .entry)) (now (board .exit)) r (now (results .exit)) ⌝ }
 {
-    let told = cohorts::lapse::lapse_split(board, ShardId(target));
+    let told = lapses::lapse_split(board, ShardId(target));
     *results = [told.handled, told.draws_used];
     let answer = told.answer;
     answer.number()

@@ -1,6 +1,6 @@
 use native.Mathlib.Omega.{arith}
 use borrow.Author.Needs.{needs}
-use Rattle.cohorts.proofs.Lapses.{seatsAt}
+use Rattle.lapses.proofs.Lapses.{seatsAt}
 use Rattle.cohorts.proofs.Watches.{place-within, seat-made}
 use Rattle.cohorts.proofs.watch.open_seat.Statement.{statement}
 use Rattle.cohorts.proofs.watch.open_seat.Tie as tie

@@ -9,7 +9,7 @@ use Rattle.rules.specs.WellFormed.{goodIds, wellFormed}
 use Rattle.rules.specs.Moves.{mayJoin}
 use Rattle.rules.specs.Reshapes.{halfUp}
 use Rattle.board.specs.Held.{Holds, noReshape}
-use Rattle.cohorts.proofs.Lapses.{seatsAt}
+use Rattle.lapses.proofs.Lapses.{seatsAt}
 use Rattle.cohorts.proofs.Watches.{size-is, Watched, none-watched, one-watched, all-watched}
 use Rattle.cohorts.proofs.watch.watch_all.Statement.{statement}
 use Rattle.cohorts.proofs.watch.watch_all.Tie as tie
