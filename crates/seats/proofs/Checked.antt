@@ -14,13 +14,13 @@ use Rattle.rules.specs.SeatCheck.{membersAreThere, machinesAreListed, cohortsWa
 use Rattle.rules.proofs.Tests.{all-parts}
 use Rattle.rules.proofs.SeatsKept.{seatCheck-formed}
 use Rattle.tables.proofs.Bools.{and-is}
-use Rattle.board.specs.Held.{Holds, noReshape}
+use Rattle.board.specs.Held.{noReshape}
 use Rattle.board.specs.Permitted.{WellHeld}
 use Rattle.board.proofs.One.{list-good, one-board}
 use Rattle.board.proofs.Fitting.{every-at}
 use Rattle.reshapes.specs.Changes.{kindOf}
 use Rattle.seats.specs.Rows.{reshapeStands}
-use Rattle.seats.specs.Tells.{SeatedWell, TellsSeats}
+use Rattle.seats.specs.Tells.{TellsSeats}
 
 -- ---- a reshape, asked at its row
 

@@ -43,7 +43,7 @@ returns c = λ b h ok l.
     let t = a .inv .2 b h ok l in
     let row = getD (b .committees) (c .before .before .before .before .before .before .before .before .before .before .before .args .j) noCommittee in
     let m : a .k < length (row .val) = omega (arith, t .0, c .before .before .before .before .before .loop-test .taken) in
-    let e = says-here b _ _ _ (c .before .before .before .place-of .ensures b h ok) _ _ (c .before .before .before .before .member-at .ensures b h l m) (c .before .before .before .before .before .before .before .before .before .shard-at .ensures b h l) _ _ (c .before .before .is-seated-on .ensures) (c .before .observes-shard .ensures) in
+    let e = says-here b _ _ _ (c .before .before .before .place-of .ensures b h ok) _ _ (c .before .before .before .before .member-at .ensures b h l (omega arith)) (c .before .before .before .before .before .before .before .before .before .shard-at .ensures b h l) _ _ (c .before .before .is-seated-on .ensures) (c .before .observes-shard .ensures) in
     every-failed (says (isHere (row .key)) b) _ (row .val) (a .k) (t .1) 0 m (sym e ∙ not-true _ (c .if1 .taken))
 
 loop-again : tie.Need-loop-again Inv-loop μ-loop
@@ -55,7 +55,7 @@ loop-again c = (
       let t = a .inv .2 b h ok l in
       let row = getD (b .committees) (c .before .before .before .before .before .before .before .before .before .before .before .args .j) noCommittee in
       let m : a .k < length (row .val) = omega (arith, t .0, c .before .before .before .before .before .loop-test .taken) in
-      let e = says-here b _ _ _ (c .before .before .before .place-of .ensures b h ok) _ _ (c .before .before .before .before .member-at .ensures b h l m) (c .before .before .before .before .before .before .before .before .before .shard-at .ensures b h l) _ _ (c .before .before .is-seated-on .ensures) (c .before .observes-shard .ensures) in
+      let e = says-here b _ _ _ (c .before .before .before .place-of .ensures b h ok) _ _ (c .before .before .before .before .member-at .ensures b h l (omega arith)) (c .before .before .before .before .before .before .before .before .before .shard-at .ensures b h l) _ _ (c .before .before .is-seated-on .ensures) (c .before .observes-shard .ensures) in
       (t .0, every-passed (says (isHere (row .key)) b) _ (row .val) (a .k) (t .1) 0 m (sym e ∙ not-false _ (c .if1 .left))),
 )
 

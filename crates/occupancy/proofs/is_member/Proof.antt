@@ -1,4 +1,5 @@
 use mathlib.Core.Path.{ap, _∙_}
+use native.Mathlib.Omega.{arith}
 use Rattle.rules.specs.Lists.{has}
 use Rattle.occupancy.proofs.Occupied.{no-committee, members-there}
 use borrow.Author.Needs.{needs}
@@ -12,7 +13,7 @@ returns-2 : tie.Need-returns-2
 returns-2 c = λ b h ok.
     let f = c .before .before .committee-row .ensures b h ok in
     let l = c .before .if1 .left in
-    c .has-member .ensures b h (f .inside l) ∙ ap (has _) (members-there _ b ok _ f l)
+    c .has-member .ensures b h (omega (arith, f .inside l)) ∙ ap (has _) (members-there _ b ok _ f l)
 
 pub is-member-spec : {M : Type 1} → statement M
 is-member-spec =
