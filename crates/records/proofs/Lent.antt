@@ -37,6 +37,8 @@ use denote.Ref.{RefT, MutRef, ptr-vals, mut-tells, now}
 use denote.Signature.{Slot, plain, typesAt}
 use denote.Steps.{only, opens, closes, owned, peeks, facts, heard, nothing}
 use denote.Struct.Steps.{spelt}
+use denote.Struct.Declared.{Declared, row, fields}
+use denote.Struct.Struct.{Plains}
 use denote.Struct.Laws as LL
 use denote.Enum.Laws as EL
 use denote.Triple.Entry.{onEntry}
@@ -65,27 +67,23 @@ pub record ByValue : Type 2 where
   pub last : (x : row .Denot) → Last (row .exit yes) x
   pub silent : (x : row .Denot) (f : Last (row .exit yes) x) → left (row .exit yes) x f ≡ ftrue
 
-abbrev pub shard-id : ByValue
-shard-id = record {
-  row = ShardId.the-row;
-  vals = LL.vals ShardId.the-type ShardId.Laws.the-laws;
-  tells = LL.tells ShardId.the-type ShardId.Laws.the-laws;
-  lawful = λ M. LL.lawful ShardId.the-type ShardId.Laws.the-laws;
-  makes = λ M 𝓤 H A W. LL.makes ShardId.the-type ShardId.Laws.the-plain 𝓤 H A;
-  last = λ x. tt;
-  silent = λ x f. refl;
+-- a struct of such fields
+abbrev of-struct : (D : Declared) → LL.Laws D → Plains (fields D) → ((x : D .D) → Last (row D .exit yes) x) → ((x : D .D) (f : Last (row D .exit yes) x) → left (row D .exit yes) x f ≡ ftrue) → ByValue
+of-struct D L plains last silent = record {
+  row = row D;
+  vals = LL.vals D L;
+  tells = LL.tells D L;
+  lawful = λ M. LL.lawful D L;
+  makes = λ M 𝓤 H A W. LL.makes D plains 𝓤 H A;
+  last = last;
+  silent = silent;
 }
 
+abbrev pub shard-id : ByValue
+shard-id = of-struct ShardId.the-type ShardId.Laws.the-laws ShardId.Laws.the-plain (λ x. tt) (λ x f. refl)
+
 abbrev pub epoch : ByValue
-epoch = record {
-  row = Epoch.the-row;
-  vals = LL.vals Epoch.the-type Epoch.Laws.the-laws;
-  tells = LL.tells Epoch.the-type Epoch.Laws.the-laws;
-  lawful = λ M. LL.lawful Epoch.the-type Epoch.Laws.the-laws;
-  makes = λ M 𝓤 H A W. LL.makes Epoch.the-type Epoch.Laws.the-plain 𝓤 H A;
-  last = λ x. tt;
-  silent = λ x f. refl;
-}
+epoch = of-struct Epoch.the-type Epoch.Laws.the-laws Epoch.Laws.the-plain (λ x. tt) (λ x f. refl)
 
 abbrev pub flag : ByValue
 flag = record {

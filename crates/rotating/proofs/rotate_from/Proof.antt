@@ -9,7 +9,7 @@ add-t11 c =
     let a = c .before .before .before .before .before .before .before .before .args in
     record {
       fits = moves-on (a .shard .0) (a .machine .0) (a .at) (a .draws .now) _ _ _ (search needs) (search needs)
-        (on-unread (a .shard .0) (a .machine .0) _ (a .at) (a .draws .now) _ _ _ (c .before .before .before .before .before .unread-from .ensures .1) (c .before .before .run-shuffle-step .ensures));
+          (on-unread (a .shard .0) (a .machine .0) _ (a .at) (a .draws .now) _ _ _ (c .before .before .before .before .before .unread-from .ensures .1) (c .before .before .run-shuffle-step .ensures));
     }
 
 returns : tie.Need-returns
