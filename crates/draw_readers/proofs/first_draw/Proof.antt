@@ -25,7 +25,7 @@ use denote.RattleType.{owns}
 use denote.Laws.{Is, shows}
 use denote.Plain.{uint-vals, uint-tells, uint-makes, uint-lawful}
 use denote.Builtin.{u64, usize}
-use denote.Ref.{RefT, NamedLft, now}
+use denote.Ref.{RefT, NamedLft}
 use denote.Signature.{plain, namedLft}
 use denote.Slice.{slice-vals, shr-slice-tells, shr-slice-lawful, shr-slice-copy}
 use denote.Steps.{only, owned, peeks, facts, heard, nothing}
@@ -40,7 +40,7 @@ use denote.Triple.Spec.{Meets, tripleOf}
 use denote.Triple.Table.{entered, cited}
 use denote.Triple.Walked.{says, Stays, stay-none, stay-none-slice, walkOf, goes-none, goes-none-slice, ends-at, walked, walk-meets}
 use denote.Exit.{yes}
-use Rattle.draw_readers.specs.Reads.{drawAt, readBy}
+use Rattle.draw_readers.specs.Reads.{readBy}
 use Rattle.draw_readers.specs.declared.DrawAt.{DrawAt}
 use Rattle.draw_readers.specs.declared.DrawReader.{DrawReader}
 use Rattle.draw_readers.specs.declared.Read.{Read}
