@@ -6,6 +6,7 @@
 --     Says             what is left to show of a function that makes the same move on a record lent to it:  its clauses hold where at exit the record has the moved place, and is else as it was
 --     lending          what a function has of the record while it is lent
 --     rewrites         the walk of such a function's body, up to its `return`
+--     walks-alone      the whole walk of one that is passed nothing beside m
 --     lent-meets       such a function meets its contract, once it is walked from `lending` to `lending` at the new record
 -- Assumes `Given`.
 use mathlib.Core.Path.{_≡_, refl, _∙_, ap, subst}
@@ -159,7 +160,7 @@ module _ {M : Type 1} (𝓤 : URA M) (H : Heap 𝓤) (A : Atoms 𝓤) (W : Given
     has-all [] a are = id⊢ 𝓤 _
     has-all (p ∷ ps) a are = qed W [] ∵ use0 W (‵ (hasOf κs (slots n ps) (kept n ps) (stays n ps) (a .1) (fins n κs ps (a .1)) (vals-of n κs ps (a .1)))) (has-all ps (a .1) (are .1)) $ owned ! (p .row) (Is (p .row)) (p .makes M 𝓤 H A W) (a .0) _ (are .0) $ fjoin ! $ done !
 
--- ---- the two contracts
+-- ---- the contracts
 abbrev pub placed : Machine → Place → Machine
 placed h p = record { id = h .id; place = p }
 
