@@ -1,14 +1,14 @@
 -- Each kind of flat row decided, and the settings.
-use Prim.Native.Nat.{ℕ, zero, suc, _+_, _-_, _≤_}
+use Prim.Native.Nat.{ℕ, zero, suc, _+_, _-_, _≤_, _<_}
 use mathlib.Core.Path.{_≡_, refl, ap, sym, _∙_}
 use mathlib.Core.List.{List, [], _∷_, _++_, append-nil}
 use mathlib.Core.Logic.{inl, inr}
 use mathlib.Core.Option.{Option, none, some}
-use mathlib.Core.Bool.{Bool, true, false}
+use mathlib.Core.Bool.{Bool, true, false, _&&_, or-false}
 use native.Mathlib.Omega.{arith}
-use borrow.Author.Tests.{leb-true, eqb-true, eq-eqb}
+use borrow.Author.Tests.{leb-true, eqb-true, eq-eqb, ne-eqb}
 use lib.Dec.{eqb, leb}
-use lib.ListN.{length, drop, length-drop, drop-of-length-le}
+use lib.ListN.{length, getD, drop, length-drop, drop-of-length-le}
 use lib.Seq.{drop-cons, length-take-le, take-all}
 use Rattle.types.specs.Numbers.{Id, Epoch}
 use Rattle.types.specs.Places.{shardId, epochAt}
@@ -135,6 +135,28 @@ machine-sound t ws l h =
 machine-complete : (e : Entry Place) → goodMachine e ≡ true → machineOk (machineWords e) ≡ true
 unfolding machineOk machineWords goodMachine
 machine-complete e g = place-complete (e .val) (and-parts _ _ g .1)
+
+-- by its code: what the words of a place may be, asked once
+pub place-known : (c m r s : ℕ) → c ≤ 4
+    → (within (getD (0 ∷ 1 ∷ 1 ∷ 0 ∷ 1 ∷ []) c 0) (getD (0 ∷ 65535 ∷ 65535 ∷ 0 ∷ 255 ∷ []) c 0) m && leb r (getD (0 ∷ 1 ∷ 0 ∷ 0 ∷ 0 ∷ []) c 0) && leb s (getD (0 ∷ 8589934591 ∷ 8589934591 ∷ 0 ∷ 0 ∷ []) c 0))
+    ≡ anyPass (placeCases c m r s)
+unfolding anyPass allPass caseOk
+place-known zero m r s h = simp or-false
+place-known (suc zero) m r s h = simp or-false
+place-known (suc (suc zero)) m r s h = simp or-false
+place-known (suc (suc (suc zero))) m r s h = simp or-false
+place-known (suc (suc (suc (suc zero)))) m r s h = refl
+place-known (suc (suc (suc (suc (suc c))))) m r s h = absurd (omega arith)
+
+pub place-other : (c m r s : ℕ) → 4 < c → false ≡ anyPass (placeCases c m r s)
+unfolding anyPass allPass caseOk
+place-other c m r s h =
+    let e0 : eqb c 0 ≡ false = ne-eqb c 0 (λ e. omega arith) in
+    let e1 : eqb c 1 ≡ false = ne-eqb c 1 (λ e. omega arith) in
+    let e2 : eqb c 2 ≡ false = ne-eqb c 2 (λ e. omega arith) in
+    let e3 : eqb c 3 ≡ false = ne-eqb c 3 (λ e. omega arith) in
+    let e4 : eqb c 4 ≡ false = ne-eqb c 4 (λ e. omega arith) in
+    rw (e0, e1, e2, e3, e4)
 
 pub machine-decides : Decides machineWords goodMachine machineWidth machineOk
 machine-decides = record { wide = machine-wide; sound = machine-sound; complete = machine-complete }

@@ -15,7 +15,7 @@ ghost use Prim.Native.Nat.{_≤_};
 ghost use lib.ListN.{length};
 ghost use Rattle.board.specs.Layout.{machineWidth, committeeWidth, boundaryWidth, rotationWidth, seatWidth, reshapeWidth};
 ghost use Rattle.word_tests.specs.Tests.{rises, firstOk};
-ghost use Rattle.row_tests.specs.Rows.{caseOk, machineOk, committeeOk, optionOk, boundaryOk, rotationOk, seatOk, seatsOk, epochsOk, flagsOk, halvesOk, reshapeOk, rowOk, widthOf};
+ghost use Rattle.row_tests.specs.Rows.{machineOk, committeeOk, optionOk, boundaryOk, rotationOk, seatOk, seatsOk, epochsOk, flagsOk, halvesOk, reshapeOk, rowOk, widthOf};
 
 // ---- The ranges of rules/specs/Board.antt
 
@@ -29,37 +29,27 @@ const LAST_MARK: u64 = 255;
 
 // ---- Rows
 
-// A place's words are of one case: its code, its mark from low to high, ready and stamp at most r and s.
-fn case_ok(
-    code: u64,
-    mark: u64,
-    ready: u64,
-    stamp: u64,
-    k: u64,
-    low: u64,
-    high: u64,
-    r: u64,
-    s: u64,
-) -> bool
-    ensures { λ x. ⌜ x ≡ caseOk code mark ready stamp k low high r s ⌝ }
-{
-    (code == k) & word_tests::inside(low, high, mark) & (ready <= r) & (stamp <= s)
-}
+// What a place's words may be, by its code (pooled, seated, observing, short, other): 0 where it does not use them.
+const MARK_LEAST: [u64; 5] = [0, 1, 1, 0, 1];
 
-// Pooled, seated, observing, short or other: the words that a place does not use are 0.
-fn machine_ok(t: &[u64]) -> bool
+const MARK_MOST: [u64; 5] = [0, LAST_SHARD, LAST_SHARD, 0, LAST_MARK];
+
+const READY_MOST: [u64; 5] = [0, 1, 0, 0, 0];
+
+const STAMP_MOST: [u64; 5] = [0, LAST_STAMP, LAST_STAMP, 0, 0];
+
+pub fn machine_ok(t: &[u64]) -> bool
     requires { ⌜ length (now t) ≡ machineWidth ⌝ }
     ensures { λ r. ⌜ r ≡ machineOk (now (t .entry)) ⌝ }
 {
     let code = t[1];
-    let mark = t[2];
-    let ready = t[3];
-    let stamp = t[4];
-    case_ok(code, mark, ready, stamp, 0, 0, 0, 0, 0)
-        | case_ok(code, mark, ready, stamp, 1, 1, LAST_SHARD, 1, LAST_STAMP)
-        | case_ok(code, mark, ready, stamp, 2, 1, LAST_SHARD, 0, LAST_STAMP)
-        | case_ok(code, mark, ready, stamp, 3, 0, 0, 0, 0)
-        | case_ok(code, mark, ready, stamp, 4, 1, LAST_MARK, 0, 0)
+    if 4 < code {
+        return false;
+    }
+    let k = code as usize;
+    word_tests::inside(MARK_LEAST[k], MARK_MOST[k], t[2])
+        & (t[3] <= READY_MOST[k])
+        & (t[4] <= STAMP_MOST[k])
 }
 
 // The shard, then the members.

@@ -18,11 +18,14 @@ use board::layout::ROTATIONS_AT;
 use board::layout::SETTINGS_END;
 use row_tests::RowKind;
 ghost use mathlib.Core.Path.{_≡_};
+ghost use mathlib.Core.Bool.{false};
 ghost use Prim.Native.Nat.{_≤_};
 ghost use lib.ListN.{length};
-ghost use Rattle.board.specs.Layout.{machinesAt};
+ghost use Rattle.rules.specs.Board.{mostMachines};
+ghost use Rattle.board.specs.Layout.{machineWidth, machinesAt};
 ghost use Rattle.word_tests.specs.Tests.{rises, firstOk};
-ghost use Rattle.row_tests.specs.Rows.{rowOk, inPairs, widthOf, Shape, kindOk};
+ghost use Rattle.row_tests.specs.declared.RowKind.the-variants.{Machines};
+ghost use Rattle.row_tests.specs.Rows.{machineOk, rowOk, inPairs, widthOf, Shape, kindOk};
 ghost use Rattle.wellformed.specs.Tells.{Tells};
 ghost use Rattle.wellformed.specs.Check.{numbersOk, settingsOk};
 
@@ -73,6 +76,36 @@ fn table_ok(k: RowKind, w: usize, pairs: bool, cap: usize, t: &[u64]) -> bool
     word_tests::all_zero(&t[a..])
 }
 
+// The same of machines, by far the most rows: their kind is not looked for at each.
+fn first_machine_ok(n: usize, t: &[u64]) -> bool
+    ensures { λ r. ⌜ r ≡ firstOk machineOk (rises false) machineWidth n (now (t .entry)) ⌝ }
+{
+    if t.len() < MACHINE_WIDTH {
+        return false;
+    }
+    row_tests::machine_ok(&t[..MACHINE_WIDTH])
+        & ((n == 1) | word_tests::rises(false, t, &t[MACHINE_WIDTH..]))
+}
+
+fn machines_ok(t: &[u64]) -> bool
+    requires { ⌜ 1 ≤ length (now t) ⌝ }
+    ensures { λ r. ⌜ r ≡ kindOk Machines mostMachines (now (t .entry)) ⌝ }
+{
+    let mut n = t[0] as usize;
+    if MOST_MACHINES < n {
+        return false;
+    }
+    let mut a: usize = 1;
+    while 0 < n {
+        if !first_machine_ok(n, &t[a..]) {
+            return false;
+        }
+        a += MACHINE_WIDTH;
+        n -= 1;
+    }
+    word_tests::all_zero(&t[a..])
+}
+
 // ---- The board
 
 // Epoch, S, D, W, interval and most in flight.
@@ -108,7 +141,7 @@ pub fn well_formed(board: &[u64]) -> bool
     let o = &board[ROTATIONS_AT..RESHAPES_AT];
     let r = &board[RESHAPES_AT..BOARD_SIZE];
     settings_ok(&board[0..MACHINES_AT])
-        & table_ok(RowKind::Machines, MACHINE_WIDTH, false, MOST_MACHINES, m)
+        & machines_ok(m)
         & table_ok(
             RowKind::Committees,
             COMMITTEE_WIDTH,

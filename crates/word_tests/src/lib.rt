@@ -7,6 +7,8 @@ ghost use Rattle.rules.specs.Lists.{has, distinct};
 ghost use Rattle.rules.specs.WellFormed.{within};
 ghost use Rattle.word_tests.specs.Tests.{at, allZero, rises, idsOk};
 
+const FEW: usize = 16;
+
 const MARKS: usize = 512;
 
 pub fn inside(low: u64, high: u64, x: u64) -> bool
@@ -39,6 +41,21 @@ fn lacking(x: u64, t: &[u64]) -> bool
     ok
 }
 
+// Each id against those after it: the fastest where they are few.
+fn distinct_by_pairs(t: &[u64]) -> bool
+    ensures { λ r. ⌜ r ≡ distinct (now (t .entry)) ⌝ }
+{
+    let mut i = 0;
+    while i < t.len() {
+        let x = t[i];
+        i += 1;
+        if !lacking(x, &t[i..]) {
+            return false;
+        }
+    }
+    true
+}
+
 // Asked only of an id whose mark is taken.
 fn is_new(marked: bool, x: u64, rest: &[u64]) -> bool
     ensures { λ r. ⌜ r ≡ (not marked || not (has x (now (rest .entry)))) ⌝ }
@@ -50,7 +67,7 @@ fn is_new(marked: bool, x: u64, rest: &[u64]) -> bool
 }
 
 // An id's mark is its last nine bits: each id is held against those after it only where one of them has its mark.
-fn all_distinct(t: &[u64]) -> bool
+fn distinct_by_marks(t: &[u64]) -> bool
     ensures { λ r. ⌜ r ≡ distinct (now (t .entry)) ⌝ }
 {
     let mut marks = [false; MARKS];
@@ -66,6 +83,15 @@ fn all_distinct(t: &[u64]) -> bool
         marks[mark] = true;
     }
     true
+}
+
+fn all_distinct(t: &[u64]) -> bool
+    ensures { λ r. ⌜ r ≡ distinct (now (t .entry)) ⌝ }
+{
+    if t.len() < FEW {
+        return distinct_by_pairs(t);
+    }
+    distinct_by_marks(t)
 }
 
 // A count within cap, ids that differ, and zeros after them.

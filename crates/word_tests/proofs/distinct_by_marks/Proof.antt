@@ -8,8 +8,8 @@ use borrow.Author.Tests.{not-true, not-false}
 use lib.ListN.{length, drop, length-set}
 use Rattle.rules.specs.Lists.{distinct}
 use Rattle.word_tests.proofs.Marks.{Marked, none-left, distinct-end, turn-marks, turn-goes-on, turn-fails}
-use Rattle.word_tests.proofs.all_distinct.Statement.{statement}
-use Rattle.word_tests.proofs.all_distinct.Tie as tie
+use Rattle.word_tests.proofs.distinct_by_marks.Statement.{statement}
+use Rattle.word_tests.proofs.distinct_by_marks.Tie as tie
 
 -- the words from i on are distinct, and each has its mark
 record Seen (t : List ℕ) (marks : List Bool) (i : ℕ) : Type 0 where
@@ -47,8 +47,8 @@ loop-again c =
 returns-2 : tie.Need-returns-2 Inv-loop μ-loop
 returns-2 c = let none : c .before .loop .i ≡ 0 = omega (arith, c .loop-test .left) in sym (subst (λ (i : ℕ). distinct (drop i (c .before .before .before .args .t .now)) ≡ true) none (c .before .loop .inv .apart))
 
-pub all-distinct-spec : {M : Type 1} → statement M
-all-distinct-spec =
+pub distinct-by-marks-spec : {M : Type 1} → statement M
+distinct-by-marks-spec =
     tie.close
     (tie.spec
     Inv-loop
