@@ -9,7 +9,7 @@ use native.Mathlib.Nat.{zero-add}
 use lib.Dec.{eqb, leb, leb→le, eqb→eq, eqb-refl, T}
 use lib.ListN.{length, take, drop, getD, set, take-append-drop, length-set}
 use lib.Seq.{getD-set-same, getD-set-other}
-use Rattle.rules.specs.Lists.{bitOf, keep, strike}
+use Rattle.rules.specs.Lists.{bitOf, count, keep, strike}
 use Rattle.rules.specs.Draws.{drew, tooLarge, andThen, drawIndex, exchange, shuffleFrom, shuffle}
 
 -- the two outcomes of a test on two numbers, each with what it means
@@ -108,6 +108,12 @@ occ-keep f x (y ∷ l) = go (alike x y) (f y) refl (occ-keep f x l)
     go (same e t) false u h = rw (e, u) (rw (e, u) at h)
     go (apart n t) true u h = simp (u, hit-apart x y n, zero-add) h
     go (apart n t) false u h = simp (u, hit-apart x y n, zero-add) h
+
+-- tests that agree on a list count alike
+pub count-same : (f g : ℕ → Bool) (l : List ℕ) → ((y : ℕ) → 1 ≤ occ y l → f y ≡ g y) → count f l ≡ count g l
+unfolding count occ
+count-same f g [] e = refl
+count-same f g (x ∷ l) e = rw (e x (omega (arith, hit-same x)), count-same f g l (λ y o. e y (omega arith)))
 
 pub occ-strike : (x y : ℕ) (l : List ℕ) → occ y (strike x l) + hit y x * occ x l ≡ occ y l
 unfolding strike

@@ -39,6 +39,7 @@ pub mod SeatsTest
 pub mod SeatsKept
 pub mod Batches
 pub mod Stamps
+pub mod TakenOff
 pub mod LapseCohorts
 pub mod Lapse
 pub mod Restored

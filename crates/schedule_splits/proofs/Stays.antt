@@ -1,21 +1,19 @@
 -- What an abort of a shard's rotations leaves, said on the board before it.
-use Prim.Native.Nat.{_≤_}
 use mathlib.Core.Path.{_≡_, refl, ap, sym, _∙_}
 use mathlib.Core.Logic.{_≢_}
 use mathlib.Core.List.{List, [], _∷_}
 use mathlib.Core.Option.{Option, none, some, Option·map}
 use mathlib.Core.Bool.{Bool, true, false, cond, not, true≢false}
-use native.Mathlib.Omega.{arith}
 use lib.Dec.{eqb}
 use Rattle.types.specs.Numbers.{Shard, Id}
 use Rattle.types.specs.Places.{isSeatedOn}
 use Rattle.types.specs.declared.Place.{Place}
-use Rattle.rules.specs.Lists.{_and_, _or_, any, count, keep, has, strike, sort}
+use Rattle.rules.specs.Lists.{_and_, _or_, any, keep, has, strike, sort}
 use Rattle.rules.specs.Table.{Table, at}
 use Rattle.rules.specs.Board.{Settings, Boundary, Reshape, Board}
 use Rattle.rules.specs.Moves.{says, membersOf, place, quit, takeOff, forAll, pooledFrom, entrantsOn, abortRotations}
 use Rattle.rules.specs.Schedule.{seatedThere}
-use Rattle.rules.proofs.Counts.{Alike, same, apart, alike, eqb-same, eqb-apart, occ, hit-same}
+use Rattle.rules.proofs.Counts.{Alike, same, apart, alike, eqb-same, eqb-apart}
 use Rattle.rules.proofs.KeptTables.{at-update, at-other, holds-same}
 use Rattle.rules.proofs.Turns.{forAll-keeps}
 use Rattle.drains.proofs.Drains.{and-end}
@@ -36,11 +34,6 @@ keep-all : (l : List Id) → keep (λ y. true) l ≡ l
 unfolding keep
 keep-all [] = refl
 keep-all (x ∷ l) = ap (λ (m : List Id). x ∷ m) (keep-all l)
-
-pub count-same : (f g : Id → Bool) (l : List Id) → ((y : Id) → 1 ≤ occ y l → f y ≡ g y) → count f l ≡ count g l
-unfolding count occ
-count-same f g [] e = refl
-count-same f g (x ∷ l) e = rw (e x (omega (arith, hit-same x)), count-same f g l (λ y o. e y (omega arith)))
 
 -- x is none of a list that begins with y
 none-head : (x y : Id) (l : List Id) → has x (y ∷ l) ≡ false → (x ≢ y) × (has x l ≡ false)

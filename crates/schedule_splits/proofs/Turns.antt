@@ -20,7 +20,7 @@ use Rattle.rules.specs.Moves.{says, membersOf, entrantsOn, abortRotations, boun
 use Rattle.rules.specs.Turns.{Turn, finished, refused, drawn, batch}
 use Rattle.rules.specs.Reshapes.{halfUp}
 use Rattle.rules.specs.Schedule.{unscheduled, scheduled, drainOrSchedule, readyFor, splitGate, passGate, seatedThere, halve, scheduleSplit, scheduleSplits}
-use Rattle.rules.proofs.Counts.{occ, occ-take, occ-keep, shuffle-keeps}
+use Rattle.rules.proofs.Counts.{occ, occ-take, occ-keep, count-same, shuffle-keeps}
 use Rattle.rules.proofs.Tests.{and-parts, of-not, le-of, of-le, has-occ}
 use Rattle.rules.proofs.KeptLists.{occ-drop, occ-sort}
 use Rattle.rules.proofs.KeptBoard.{good-of, of-good}
@@ -43,7 +43,7 @@ use Rattle.drains.specs.Plans.{RowOf, planOf}
 use Rattle.drains.proofs.Drains.{planned, drain-planned, row-at}
 use Rattle.halving.specs.Gate.{lefts, rights}
 use Rattle.schedule_splits.specs.Stay.{Stay}
-use Rattle.schedule_splits.proofs.Stays.{count-same, stayer-says, seated-stay, abort-rest}
+use Rattle.schedule_splits.proofs.Stays.{stayer-says, seated-stay, abort-rest}
 
 -- ---- after the abort
 

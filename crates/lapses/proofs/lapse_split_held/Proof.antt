@@ -23,12 +23,13 @@ returns-3 c = λ b h ok.
 
 returns-4 : tie.Need-returns-4
 returns-4 c = λ b h ok.
-    let y = sym (c .before .before .before .before .before .before .before .before .before .before .before .before .before .before .is-target .ensures) ∙ not-false _ (c .before .before .before .before .before .before .before .before .before .before .before .before .before .if1 .left) in
-    let l = c .before .before .before .before .before .before .before .before .before .before .if2 .left in
-    let f = c .before .before .before .before .before .before .before .before .before .before .before .reshape-row .ensures b h ok in
+    let y = sym (c .before .before .before .before .before .before .before .before .before .before .before .before .is-target .ensures) ∙ not-false _ (c .before .before .before .before .before .before .before .before .before .before .before .if1 .left) in
+    let l = c .before .before .before .before .before .before .before .before .if2 .left in
+    let f = c .before .before .before .before .before .before .before .before .before .reshape-row .ensures b h ok in
     let i = f .inside l in
-    let m = sym (c .before .before .before .before .before .before .before .before .is-merge .ensures b h i) ∙ c .before .before .before .before .before .before .before .if3 .left in
-    lapsed b ok _ _ _ y _ i (f .named l) m _ (c .before .before .before .before .before .observing .ensures b h ok i) (c .before .before .before .release-cohort .ensures b h ok i (f .named l)) (c .done .ensures)
+    let m = sym (c .before .before .before .before .before .before .is-merge .ensures b h i) ∙ c .before .before .before .before .before .if3 .left in
+    let r = c .before .before .before .release-cohort .ensures b h ok i (f .named l) in
+    lapsed b ok _ _ _ y _ i (f .named l) m _ (r .0) (r .1) (c .done .ensures)
 
 pub lapse-split-held-spec : {M : Type 1} → statement M
 lapse-split-held-spec =
@@ -45,7 +46,6 @@ lapse-split-held-spec =
     (λ c κs. search needs)
     (λ c. search needs)
     returns-3
-    (λ c κs. search needs)
     (λ c κs. search needs)
     (λ c κs. search needs)
     (λ c. search needs)

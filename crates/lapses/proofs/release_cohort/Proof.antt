@@ -1,62 +1,19 @@
-use Prim.Native.Nat.{_-_, _≤_, _<_}
-use mathlib.Core.Path.{_≡_, refl, _∙_}
-use mathlib.Core.Bool.{true}
-use native.Mathlib.Omega.{arith}
 use borrow.Author.Needs.{needs}
-use lib.ListN.{length}
-use Rattle.rules.specs.Board.{Board, mostSeats}
-use Rattle.rules.specs.WellFormed.{wellFormed}
-use Rattle.board.specs.Held.{Holds}
-use Rattle.reshapes.specs.Changes.{seatEntry}
-use Rattle.reshapes.proofs.OfReshapes.{seats-room}
-use Rattle.lapses.proofs.Lapses.{seatsAt, Gone, none-gone, one-gone, all-gone}
+use Rattle.lapses.proofs.Lapses.{sent-well, sent-there, all-released}
 use Rattle.lapses.proofs.release_cohort.Statement.{statement}
 use Rattle.lapses.proofs.release_cohort.Tie as tie
 
-abbrev Inv-loop : tie.InvT-loop
-Inv-loop board₀ target i n k₀ board k = (k ≤ n) × (n ≤ mostSeats) × (length board ≡ length board₀)
-    × ((b : Board) → Holds board₀ b → wellFormed b ≡ true → i < length (b .reshapes) → (n ≡ length (seatsAt i b)) × Gone (target .0) i b k board)
-
-abbrev μ-loop : tie.MeasureT-loop
-μ-loop board₀ target i n k₀ board k = n - k
-
-loop-holds : tie.Need-loop-holds Inv-loop μ-loop
-loop-holds c = (
-  omega arith,
-  c .rows-within .ensures .0,
-  refl,
-  λ b h ok l. (c .rows-within .ensures .1 (rw (c .before .count .ensures b h l) (seats-room _ b h _ l)) ∙ c .before .count .ensures b h l, none-gone _ _ b _ h ok),
-)
-
-loop-again : tie.Need-loop-again Inv-loop μ-loop
-loop-again c = let a = c .before .before .before .before .before .before .before .loop in (
-  omega arith,
-  a .inv .1,
-  c .before .before .take-off .kept .0 ∙ a .inv .2,
-  λ b h ok l.
-      let t = a .inv .3 b h ok l in
-      (t .0, one-gone _ _ b _ _ (t .1) l _ (omega (arith, t .0)) (seatEntry (c .before .before .before .before .at .result)) (c .before .before .before .before .at .ensures) (c .before .before .take-off .ensures)),
-)
-
-returns : tie.Need-returns Inv-loop μ-loop
+returns : tie.Need-returns
 returns c = λ b h ok l named.
-    let t = c .before .before .before .before .before .loop .inv .3 b h ok l in
-    all-gone _ _ b _ _ (t .1) l _ ok named (omega (arith, t .0)) (c .before .before .clear .ensures)
+    let sent = c .before .before .before .before .before .before .before .before .before .before .send-all-back .ensures b h ok l in
+    (sent .0, all-released _ _ b ok l named _ _ (c .before .before .before .before .before .before .strike-seated .ensures _ (sent .1) (sent-well _ _ b ok l named) (sent-there _ _ b ok l named)) (c .before .before .clear .ensures))
 
 pub release-cohort-spec : {M : Type 1} → statement M
 release-cohort-spec =
     tie.close
     (tie.spec
-    Inv-loop
-    μ-loop
     (λ c κs. search needs)
     (λ c κs. search needs)
-    loop-holds
-    (λ c κs. search needs)
-    (λ c κs. search needs)
-    (λ c. search needs)
-    (λ c. search needs)
-    loop-again
     (λ c κs. search needs)
     (λ c. search needs)
     returns)
