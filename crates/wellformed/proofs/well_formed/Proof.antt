@@ -26,7 +26,6 @@ table-ok-requires-3 c κs = (section-there rotationsAt reshapesAt (c .before .be
 table-ok-requires-4 : tie.Need-table-ok-requires-4
 table-ok-requires-4 c κs = (section-there reshapesAt boardSize (c .before .before .before .before .before .before .before .before .before .before .before .before .before .args .board .now) (omega arith) (omega arith) (c .before .before .before .before .before .before .before .before .before .before .before .if1 .left), record { wide = refl; paired = refl })
 
-
 returns-2 : tie.Need-returns-2
 returns-2 c = tells (c .before .before .before .before .before .before .before .before .before .before .before .before .before .before .args .board .now) _ (words-all (c .before .before .before .before .before .before .before .before .before .before .before .before .before .before .args .board .now) (λ i. omega (arith, c .before .before .before .before .before .before .before .before .before .before .before .before .before .shared-slice-known .given i)))
     (words-are _ _ _ _ _ _ _ (c .before .before .before .before .before .before .before .before .before .before .before .before .if1 .left) (c .before .before .before .before .before .settings-ok .ensures) (c .before .before .before .before .machines-ok .ensures) (c .before .before .before .table-ok .ensures) (c .before .before .table-ok2 .ensures) (c .before .table-ok3 .ensures) (c .table-ok4 .ensures))
