@@ -7,7 +7,7 @@ use lib.ListN.{getD, set}
 use Rattle.rules.specs.Board.{Board, onSettings}
 use Rattle.rules.specs.Snapshot.{settingsWords}
 use Rattle.tables.specs.Rows.{pad}
-use Rattle.tables.proofs.Parts.{spot-word, spot-store}
+use Rattle.shifts.proofs.Parts.{spot-word, spot-store}
 use Rattle.board.specs.Layout.{machinesAt, settingsTable}
 use Rattle.board.specs.Held.{Holds}
 use Rattle.board.specs.Leaves.{atEpoch}

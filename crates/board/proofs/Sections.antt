@@ -10,7 +10,7 @@ use Rattle.rules.specs.Table.{entry}
 use Rattle.rules.specs.Board.{Board, mostMachines, mostCommittees, mostMembers, mostBounds, mostRotations, mostReshapes, onSettings, onMachines, onCommittees, onBounds, onRotations, onReshapes}
 use Rattle.rules.specs.Snapshot.{machineWords, boundaryWords, rotationWords}
 use Rattle.tables.specs.Rows.{table, idTable, insertAt, removeAt, Rising, placeOf, without, Row, wordsIn, keyIn}
-use Rattle.tables.proofs.Parts.{Spot, spot-read, spot-put, spot-word, spot-store, within}
+use Rattle.shifts.proofs.Parts.{Spot, spot-read, spot-put, spot-word, spot-store, within}
 use Rattle.tables.proofs.Tables.{table-length, row-spot}
 use Rattle.tables.proofs.Typed.{opened-as, removed-as, dropped-as, placed-as}
 use Rattle.board.specs.Layout.{machineWidth, committeeWidth, boundaryWidth, rotationWidth, membersAt, reshapeWidth, machinesAt, committeesAt, boundsAt, rotationsAt, reshapesAt, boardSize, committeeRow, reshapeRow, settingsTable, machineTable, committeeTable, boundaryTable, rotationTable, reshapeTable, encode}

@@ -106,7 +106,7 @@ pub fn clear_members(ws: &mut [u64], j: usize)
 {
     let a = COMMITTEES_AT + 1 + j * COMMITTEE_WIDTH + MEMBERS_AT;
     let e = a + MEMBERS_SIZE;
-    tables::clear(&mut ws[a..e]);
+    shifts::clear(&mut ws[a..e]);
 }
 
 // ---- committees opened and closed

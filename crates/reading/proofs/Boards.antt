@@ -18,12 +18,12 @@ use Rattle.rules.proofs.Tests.{all-parts, all-joins, every-append}
 use Rattle.rules.proofs.Snapshot.{words-are-words, bytes-read-back, snapshot-reads-back, snapshot-read-writes}
 use Rattle.tables.specs.Rows.{pad}
 use Rattle.board.specs.Layout.{boardSize, settingsTable, encode}
-use Rattle.wellformed.specs.declared.RowKind.{RowKind}
-use Rattle.wellformed.specs.declared.RowKind.the-variants.{Machines, Committees, Boundaries, Rotations, Reshapes}
+use Rattle.row_tests.specs.declared.RowKind.{RowKind}
+use Rattle.row_tests.specs.declared.RowKind.the-variants.{Machines, Committees, Boundaries, Rotations, Reshapes}
 use Rattle.wellformed.specs.Check.{settingsOk}
-use Rattle.wellformed.proofs.Tests.{left-true, right-true, both}
-use Rattle.wellformed.proofs.Decides.{Words, words-cut}
-use Rattle.wellformed.proofs.Rows.{settings-decides}
+use Rattle.word_tests.proofs.Tests.{left-true, right-true, both}
+use Rattle.word_tests.proofs.Decides.{Words, words-cut}
+use Rattle.wellformed.proofs.Settings.{settings-decides}
 use Rattle.snapshot.specs.ReadAs.{ReadAs, notSnapshot, tooShort, readAs}
 use Rattle.unpacking.specs.AsWords.{AsWords}
 use Rattle.unpacking.specs.Unpacked.{RowOf, snapRow}

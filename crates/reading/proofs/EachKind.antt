@@ -10,13 +10,14 @@ use Rattle.rules.specs.WellFormed.{rotationBefore}
 use Rattle.rules.specs.Snapshot.{machineWords, committeeWords, boundaryWords, rotationWords, reshapeWords}
 use Rattle.board.specs.Layout.{reshapeWidth, committeeRow, reshapeHead, reshapeRow}
 use Rattle.board.proofs.One.{committee-room, reshape-room}
-use Rattle.wellformed.specs.declared.RowKind.{RowKind}
-use Rattle.wellformed.specs.declared.RowKind.the-variants.{Machines, Committees, Boundaries, Rotations, Reshapes}
-use Rattle.wellformed.specs.Check.{allPass, anyPass, rises, rowOk, inPairs, widthOf}
-use Rattle.wellformed.proofs.Tests.{and-is, or-is}
-use Rattle.wellformed.proofs.Decides.{Decides}
-use Rattle.wellformed.proofs.Rows.{machine-decides, committee-decides, boundary-decides, rotation-decides}
-use Rattle.wellformed.proofs.Reshapes.{reshape-decides}
+use Rattle.row_tests.specs.declared.RowKind.{RowKind}
+use Rattle.row_tests.specs.declared.RowKind.the-variants.{Machines, Committees, Boundaries, Rotations, Reshapes}
+use Rattle.word_tests.specs.Tests.{allPass, anyPass, rises}
+use Rattle.row_tests.specs.Rows.{rowOk, inPairs, widthOf}
+use Rattle.word_tests.proofs.Tests.{and-is, or-is}
+use Rattle.word_tests.proofs.Decides.{Decides}
+use Rattle.row_tests.proofs.Rows.{machine-decides, committee-decides, boundary-decides, rotation-decides}
+use Rattle.row_tests.proofs.Reshapes.{reshape-decides}
 use Rattle.unpacking.specs.Unpacked.{RowOf, fullRow, snapRow, roomyRow}
 use Rattle.reading.specs.Stream.{goodOf, beforeOf}
 

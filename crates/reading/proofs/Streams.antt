@@ -14,9 +14,10 @@ use Rattle.rules.specs.Lists.{every}
 use Rattle.rules.specs.WellFormed.{rising, goodList}
 use Rattle.rules.specs.Snapshot.{rowsWords, section}
 use Rattle.rules.proofs.Tests.{and-parts, and-joins, all-parts, all-joins, every-parts, every-join, every-none}
-use Rattle.wellformed.specs.declared.RowKind.{RowKind}
-use Rattle.wellformed.specs.Check.{rises, rowOk, inPairs, widthOf}
-use Rattle.wellformed.proofs.Decides.{Words}
+use Rattle.row_tests.specs.declared.RowKind.{RowKind}
+use Rattle.word_tests.specs.Tests.{rises}
+use Rattle.row_tests.specs.Rows.{rowOk, inPairs, widthOf}
+use Rattle.word_tests.proofs.Decides.{Words}
 use Rattle.unpacking.specs.Unpacked.{RowOf, fullRow, snapRow, packedRow, RowRead}
 use Rattle.unpacking.proofs.Parts.{follows}
 use Rattle.unpacking.proofs.Rows.{packs-row, row-some}

@@ -8,9 +8,10 @@ use lib.ListN.{length, drop}
 use Rattle.rules.specs.Board.{Settings}
 use Rattle.rules.specs.WellFormed.{keyBefore, goodList, goodSettings, goodMachine, goodCommittee, goodBoundary, goodRotation, goodReshape, rotationBefore}
 use Rattle.rules.specs.Snapshot.{section, settingsWords}
-use Rattle.wellformed.specs.declared.RowKind.{RowKind}
-use Rattle.wellformed.specs.declared.RowKind.the-variants.{Machines, Committees, Boundaries, Rotations, Reshapes}
-use Rattle.wellformed.specs.Check.{rises, inPairs}
+use Rattle.row_tests.specs.declared.RowKind.{RowKind}
+use Rattle.row_tests.specs.declared.RowKind.the-variants.{Machines, Committees, Boundaries, Rotations, Reshapes}
+use Rattle.word_tests.specs.Tests.{rises}
+use Rattle.row_tests.specs.Rows.{inPairs}
 use Rattle.unpacking.specs.Unpacked.{RowOf, fullRow, snapRow}
 
 -- ---- rows

@@ -17,7 +17,7 @@ use Rattle.rules.specs.Moves.{isKind, withSeats, withQuiet, withDrainBy}
 use Rattle.rules.specs.Snapshot.{rowsWords, flagOf, valueOf, kindWord, seatWords, idWords, reshapeWords}
 use Rattle.rules.proofs.Tests.{all-parts, all-joins}
 use Rattle.tables.specs.Rows.{pad, idTable}
-use Rattle.tables.proofs.Parts.{Spot}
+use Rattle.shifts.proofs.Parts.{Spot}
 use Rattle.tables.proofs.Tables.{table-length}
 use Rattle.tables.proofs.Ids.{id-at}
 use Rattle.board.specs.Layout.{seatWidth, seatsAt, leftAt, rightAt, reshapeWidth, reshapesAt, seatTable, reshapeHead, reshapeRow, encode}

@@ -9,7 +9,7 @@ use lib.Seq.{set-getD}
 use Rattle.rules.specs.Table.{Entry, entry, Table}
 use Rattle.rules.specs.Board.{Seat, mostSeats}
 use Rattle.rules.specs.Snapshot.{seatWords, isOne}
-use Rattle.tables.proofs.Parts.{spot-read, spot-put}
+use Rattle.shifts.proofs.Parts.{spot-read, spot-put}
 use Rattle.tables.proofs.Tables.{row-spot}
 use Rattle.board.specs.Layout.{seatWidth, seatTable}
 use Rattle.board.specs.Held.{noSeat}

@@ -150,5 +150,5 @@ pub fn clear(ws: &mut [u64], i: usize)
 {
     let a = RESHAPES_AT + 1 + i * RESHAPE_WIDTH + SEATS_AT;
     let e = a + SEATS_SIZE;
-    tables::clear(&mut ws[a..e]);
+    shifts::clear(&mut ws[a..e]);
 }

@@ -24,7 +24,7 @@ use Rattle.tables.specs.Rows.{removeAt}
 use Rattle.tables.proofs.Keys.{at-is}
 use Rattle.board.specs.Held.{Holds, noCommittee, noRotation}
 use Rattle.board.proofs.Keyed.{committees-rise, rotations-rise}
-use Rattle.wellformed.proofs.Tests.{and-is}
+use Rattle.word_tests.proofs.Tests.{and-is}
 use Rattle.shards.proofs.Order.{rotation-goes}
 use Rattle.rows.proofs.Asked.{holds-none}
 

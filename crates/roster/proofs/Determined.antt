@@ -20,8 +20,8 @@ exported-determined step before u v m n f g a b =
       e .1,
     )
 
-pub check-determined : (ws : List ℕ) (m n : ℕ) → ExportedCheck ws m → ExportedCheck ws n → m ≡ n
-check-determined ws m n a b = go (alike m 1) (alike n 1)
+pub check-determined : (Good : List ℕ → Type 0) (ws : List ℕ) (m n : ℕ) → ExportedCheck Good ws m → ExportedCheck Good ws n → m ≡ n
+check-determined Good ws m n a b = go (alike m 1) (alike n 1)
   where
     go : Alike m 1 → Alike n 1 → m ≡ n
     go (same p q) k = p ∙ sym (b .held (a .yes p))

@@ -7,7 +7,7 @@ use Rattle.types.specs.declared.Answer.{Answer}
 use Rattle.types.specs.declared.Outcome.{Outcome}
 use Rattle.rules.specs.Board.{Board}
 use Rattle.rules.specs.Turns.{Result}
-use Rattle.board.specs.Permitted.{WellHeld, PermittedStep}
+use Rattle.board.specs.Permitted.{PermittedStep}
 use Rattle.snapshot.specs.Written.{Written}
 use Rattle.snapshot.specs.ReadAs.{ReadAs}
 
@@ -18,10 +18,10 @@ pub record ExportedStep (step : Board → Result) (before after : List ℕ) (num
   pub answer : number ≡ numberOf (outcome .answer)
   pub counts : results ≡ outcome .handled ∷ outcome .«draws_used» ∷ []
 
--- a check: 1 exactly if the words hold a well-formed board, else 0
-pub record ExportedCheck (ws : List ℕ) (number : ℕ) : Type 0 where
-  pub yes : number ≡ 1 → WellHeld ws
-  pub held : WellHeld ws → number ≡ 1
+-- a check: 1 exactly if the words are good, else 0
+pub record ExportedCheck (Good : List ℕ → Type 0) (ws : List ℕ) (number : ℕ) : Type 0 where
+  pub yes : number ≡ 1 → Good ws
+  pub held : Good ws → number ≡ 1
   pub bit : (number ≡ 1 → ⊥) → number ≡ 0
 
 -- a snapshot written: the answer's number, every lent byte and the length

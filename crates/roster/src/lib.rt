@@ -3,10 +3,12 @@ use types::ShardId;
 use types::ValidatorId;
 ghost use mathlib.Core.Path.{_≡_};
 ghost use Rattle.board.specs.Layout.{boardSize};
+ghost use Rattle.board.specs.Permitted.{WellHeld};
 ghost use Rattle.rules.specs.Places.{tick, leave, rotate, resolve, timeOut};
 ghost use Rattle.rules.specs.Reshapes.{admitSplit, admitMerge, markSeatReady, markQuiet, drawCohort, lapse};
 ghost use Rattle.rules.specs.Schedule.{scheduleSplits, scheduleMerges};
 ghost use Rattle.rules.specs.Cut.{cutSplits, cutMerges};
+ghost use Rattle.seats.specs.Tells.{SeatedWell};
 ghost use Rattle.roster.specs.Exported.{ExportedStep, ExportedCheck, ExportedWrite, ExportedRead};
 
 // How many words a board is: lend exactly as many.
@@ -28,9 +30,20 @@ pub extern "C" fn roster_snapshot_most() -> u64
 // 1 if the words hold a well-formed board, else 0.
 #[no_mangle]
 pub extern "C" fn roster_well_formed(board: &[u64]) -> u64
-    ensures { λ r. ⌜ ExportedCheck (now (board .entry)) r ⌝ }
+    ensures { λ r. ⌜ ExportedCheck WellHeld (now (board .entry)) r ⌝ }
 {
     if wellformed::well_formed(board) {
+        return 1;
+    }
+    0
+}
+
+// 1 if the words hold a board that passes the seat check, else 0.
+#[no_mangle]
+pub extern "C" fn roster_seat_check(board: &[u64]) -> u64
+    ensures { λ r. ⌜ ExportedCheck SeatedWell (now (board .entry)) r ⌝ }
+{
+    if seats::seat_check(board) {
         return 1;
     }
     0

@@ -1,7 +1,2 @@
-pub mod Lefts
-pub mod Sizes
-pub mod Puts
-pub mod Nesteds
-pub mod Packs
 pub mod Writes
 pub mod Trips

@@ -1,4 +1,4 @@
--- The whole board: its size, its bytes, and what a write leaves.
+-- What a write leaves.
 use Prim.Native.Nat.{ℕ, _+_, _*_, _≤_, _<_}
 use mathlib.Core.Path.{_≡_, refl, ap, sym, _∙_}
 use mathlib.Core.List.{List, _++_}
@@ -6,66 +6,26 @@ use mathlib.Core.Option.{some}
 use mathlib.Core.Bool.{Bool, true, false}
 use native.Mathlib.Omega.{arith}
 use native.Mathlib.Nat.{zero-add}
-use lib.ListN.{length, take, drop, length-append}
-use lib.Seq.{length-take-le, take-append-seam}
+use lib.ListN.{length, take, drop}
+use lib.Seq.{take-append-seam}
 use Rattle.types.specs.declared.Answer.{Answer}
 use Rattle.types.specs.declared.Answer.the-variants.{Done, NotWellFormed, NoRoom}
-use Rattle.rules.specs.Board.{Board, mostMachines, mostCommittees, mostBounds, mostRotations, mostReshapes}
+use Rattle.rules.specs.Board.{Board}
 use Rattle.rules.specs.Snapshot.{bytesOf, wordsOf, snapshotOf, readSnapshot}
 use Rattle.rules.specs.WellFormed.{wellFormed}
 use Rattle.rules.proofs.SnapshotBytes.{bytes-length}
 use Rattle.rules.proofs.Snapshot.{snapshot-reads-back}
-use Rattle.board.specs.Layout.{machineWidth, boundaryWidth, rotationWidth, machinesAt, committeesAt, boundsAt, rotationsAt, reshapesAt, boardSize}
+use Rattle.board.specs.Layout.{boardSize}
 use Rattle.board.specs.Held.{Holds}
 use Rattle.board.specs.Permitted.{WellHeld}
 use Rattle.board.proofs.Widths.{board-wide}
 use Rattle.board.proofs.One.{one-board}
 use Rattle.wellformed.specs.Tells.{Tells}
 use Rattle.bytes_words.specs.Laid.{laid}
-use Rattle.snapshot.specs.declared.Nested.the-variants.{Committees, Reshapes}
-use Rattle.snapshot.specs.Packed.{between, flat, nested, packed}
-use Rattle.snapshot.specs.Written.{Put, Written, notBoard, noRoom, written}
-use Rattle.snapshot.proofs.Sizes.{between-length, flat-most}
-use Rattle.snapshot.proofs.Lefts.{Left, start}
-use Rattle.snapshot.proofs.Packs.{packed-encode}
-
-pub packed-start : (t out : List ℕ) → length (packed t) * 8 ≤ length out
-    → Left (packed t) 0 out
-    (take 7 t
-    ++ (flat machineWidth mostMachines (between machinesAt committeesAt t)
-    ++ (nested Committees mostCommittees (between committeesAt boundsAt t)
-    ++ (flat boundaryWidth mostBounds (between boundsAt rotationsAt t)
-    ++ (flat rotationWidth mostRotations (between rotationsAt reshapesAt t) ++ nested Reshapes mostReshapes (between reshapesAt boardSize t))))))
-    0 out
-unfolding packed
-packed-start t out h = start _ _ 0 out refl (omega arith)
-
--- the sizes of the sections
-pub record Summed (t : List ℕ) (n : ℕ) : Type 0 where
-  pub is : n ≡ length (packed t)
-  pub small : n ≤ boardSize
-
-pub summed : (t : List ℕ) (m c b o r : ℕ) → length t ≡ boardSize
-    → m ≡ length (flat machineWidth mostMachines (between machinesAt committeesAt t))
-    → (c ≡ length (nested Committees mostCommittees (between committeesAt boundsAt t))) × (c ≤ length (between committeesAt boundsAt t))
-    → b ≡ length (flat boundaryWidth mostBounds (between boundsAt rotationsAt t))
-    → o ≡ length (flat rotationWidth mostRotations (between rotationsAt reshapesAt t))
-    → (r ≡ length (nested Reshapes mostReshapes (between reshapesAt boardSize t))) × (r ≤ length (between reshapesAt boardSize t))
-    → Summed t (7 + m + c + b + o + r)
-unfolding packed
-summed t m c b o r l em ec eb eo er = record {
-  is = simp length-append (omega (arith, length-take-le 7 t (omega arith)));
-  small = omega (
-    arith,
-    flat-most machineWidth mostMachines (between machinesAt committeesAt t) (between-length machinesAt committeesAt t (omega arith)),
-    between-length committeesAt boundsAt t (omega arith),
-    flat-most boundaryWidth mostBounds (between boundsAt rotationsAt t) (between-length boundsAt rotationsAt t (omega arith)),
-    flat-most rotationWidth mostRotations (between rotationsAt reshapesAt t) (between-length rotationsAt reshapesAt t (omega arith)),
-    between-length reshapesAt boardSize t (omega arith),
-  );
-}
-
--- ---- what a write leaves
+use Rattle.packing.specs.Packed.{packed}
+use Rattle.packing.specs.Put.{Put}
+use Rattle.packing.proofs.Packs.{packed-encode}
+use Rattle.snapshot.specs.Written.{Written, notBoard, noRoom, written}
 
 pub held-size : {ws : List ℕ} → WellHeld ws → length ws ≡ boardSize
 held-size h = ap length (h .holds .words) ∙ board-wide (h .board)

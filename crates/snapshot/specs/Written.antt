@@ -1,5 +1,5 @@
 -- What a write leaves.
-use Prim.Native.Nat.{ℕ, _+_, _*_, _<_, _≤_}
+use Prim.Native.Nat.{ℕ, _<_, _≤_}
 use mathlib.Core.Path.{_≡_}
 use mathlib.Core.List.{List, _++_}
 use mathlib.Core.Bool.{true}
@@ -11,12 +11,6 @@ use Rattle.rules.specs.WellFormed.{wellFormed}
 use Rattle.rules.specs.Snapshot.{snapshotOf}
 use Rattle.board.specs.Held.{Holds}
 use Rattle.board.specs.Permitted.{WellHeld}
-use Rattle.bytes_words.specs.Laid.{laid}
-
--- words laid at a place, and where the next byte goes
-pub record Put (ws : List ℕ) (at : ℕ) (before after : List ℕ) (r : ℕ) : Type 0 where
-  pub next : r ≡ at + length ws * 8
-  pub bytes : after ≡ laid ws at before
 
 -- the answer r, the bytes and the length, of lent words, bytes before and a length before
 pub data Written (ws before : List ℕ) (long : ℕ) (after : List ℕ) (longer : ℕ) (r : Answer) : Type 0 where

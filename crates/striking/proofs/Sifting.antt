@@ -16,7 +16,7 @@ use Rattle.rules.specs.Board.{Board, mostCommittees, mostMembers, onCommittees}
 use Rattle.rules.specs.WellFormed.{wellFormed}
 use Rattle.rules.proofs.Tests.{eq-of, of-eq}
 use Rattle.tables.specs.Rows.{Rising, keyOf, placeOf, idTable}
-use Rattle.tables.proofs.Parts.{Spot, spot-store, mid-read, mid-put}
+use Rattle.shifts.proofs.Parts.{Spot, spot-store, mid-read, mid-put}
 use Rattle.tables.proofs.Tables.{pad-is}
 use Rattle.tables.proofs.Ids.{id-words}
 use Rattle.tables.proofs.Keys.{at-is, at-is-none, update-none}

@@ -50,7 +50,7 @@ fn cut(t: &mut [u64], cap: usize, k: usize)
     }
     let a = 1 + k;
     let e = 1 + n;
-    tables::clear(&mut t[a..e]);
+    shifts::clear(&mut t[a..e]);
     t[0] = k as u64;
 }
 

@@ -12,9 +12,9 @@ use borrow.Rule.Slice.PartMut.{putMid}
 use Rattle.rules.specs.Lists.{bitOf, keep}
 use Rattle.rules.specs.Snapshot.{rowsWords}
 use Rattle.tables.specs.Rows.{table, without, Row, wordsIn, keyIn}
-use Rattle.tables.specs.Moved.{movedDown}
-use Rattle.tables.proofs.Parts.{mid-read, mid-put}
-use Rattle.tables.proofs.Words.{Behind, shifted}
+use Rattle.shifts.specs.Moved.{movedDown}
+use Rattle.shifts.proofs.Parts.{mid-read, mid-put}
+use Rattle.shifts.proofs.Words.{Behind, shifted}
 use Rattle.tables.proofs.Tables.{rows-append, rows-length, built, no-row}
 
 module _ {A : Type 0} (f : A → Bool) where

@@ -1,6 +1,4 @@
 pub mod Bools
-pub mod Parts
-pub mod Words
 pub mod Tables
 pub mod Keys
 pub mod Drops

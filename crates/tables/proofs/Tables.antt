@@ -8,7 +8,7 @@ use lib.ListN.{length, getD, set, take, drop, replicate, length-append, length-d
 use lib.Seq.{set-getD, take-append-add, set-split, split-at, length-take-le}
 use Rattle.rules.specs.Snapshot.{rowsWords}
 use Rattle.tables.specs.Rows.{pad, table, insertAt, removeAt, Row}
-use Rattle.tables.proofs.Parts.{Spot, spot-word}
+use Rattle.shifts.proofs.Parts.{Spot, spot-word}
 
 -- ---- padding
 

@@ -13,7 +13,7 @@ use Rattle.rules.proofs.Snapshot.{words-are-words}
 use Rattle.tables.specs.Rows.{pad}
 use Rattle.board.specs.Layout.{machinesAt, committeesAt, boundsAt, rotationsAt, reshapesAt, boardSize, settingsTable, encode}
 use Rattle.board.proofs.One.{every-yes, well-formed-fits}
-use Rattle.wellformed.specs.declared.RowKind.the-variants.{Machines, Committees, Boundaries, Rotations, Reshapes}
+use Rattle.row_tests.specs.declared.RowKind.the-variants.{Machines, Committees, Boundaries, Rotations, Reshapes}
 use Rattle.unpacking.specs.AsWords.{AsWords}
 use Rattle.unpacking.specs.Parts.{PartRead, plain, Wide}
 use Rattle.unpacking.specs.Unpacked.{TableRead, SettingsRead}

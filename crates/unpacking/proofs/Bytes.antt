@@ -7,7 +7,7 @@ use lib.ListN.{length, getD, take, drop, length-drop, take-append-drop}
 use lib.Seq.{drop-at, drop-cons, take-append-le, drop-append-le, length-take-le}
 use Rattle.rules.specs.Snapshot.{bytesOf, valueOfBytes, readWords}
 use Rattle.rules.proofs.SnapshotBytes.{bytes-length, words-back}
-use Rattle.wellformed.proofs.Decides.{words-cut}
+use Rattle.word_tests.proofs.Decides.{words-cut}
 use Rattle.bytes_words.proofs.Lays.{bytes-append}
 use Rattle.unpacking.specs.AsWords.{AsWords}
 

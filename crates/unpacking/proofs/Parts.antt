@@ -10,9 +10,9 @@ use lib.Seq.{take-at, drop-at, drop-drop, getD-drop, getD-take, length-take-le}
 use Rattle.rules.specs.Snapshot.{readWords, rowsWords, section}
 use Rattle.tables.specs.Rows.{pad, table}
 use Rattle.tables.proofs.Tables.{length-pad, pad-is, rows-length}
-use Rattle.snapshot.specs.Packed.{countOf, flat}
-use Rattle.snapshot.proofs.Sizes.{count-few, flat-length}
-use Rattle.snapshot.proofs.Packs.{flat-packs}
+use Rattle.packing.specs.Packed.{countOf, flat}
+use Rattle.packing.proofs.Sizes.{count-few, flat-length}
+use Rattle.packing.proofs.Packs.{flat-packs}
 use Rattle.unpacking.specs.AsWords.{AsWords}
 use Rattle.unpacking.specs.Parts.{PartRead, plain, Wide, Listed}
 use Rattle.unpacking.proofs.Bytes.{total, words-are}

@@ -17,11 +17,11 @@ use Rattle.tables.proofs.Tables.{table-length}
 use Rattle.board.specs.Layout.{committeeWidth, seatWidth, reshapeWidth, committeeRow, seatTable, reshapeHead, reshapeRow}
 use Rattle.board.specs.Held.{roomyCommittee, roomyReshape}
 use Rattle.board.proofs.Widths.{machine-wide, id-wide, committee-wide, boundary-wide, rotation-wide, seat-wide, head-wide, reshape-wide}
-use Rattle.wellformed.specs.declared.RowKind.{RowKind}
-use Rattle.wellformed.specs.declared.RowKind.the-variants.{Machines, Committees, Boundaries, Rotations, Reshapes}
-use Rattle.wellformed.specs.Check.{widthOf}
-use Rattle.snapshot.specs.Packed.{flat, committee, reshape, rowOf}
-use Rattle.snapshot.proofs.Packs.{committee-packs, reshape-packs}
+use Rattle.row_tests.specs.declared.RowKind.{RowKind}
+use Rattle.row_tests.specs.declared.RowKind.the-variants.{Machines, Committees, Boundaries, Rotations, Reshapes}
+use Rattle.row_tests.specs.Rows.{widthOf}
+use Rattle.packing.specs.Packed.{flat, committee, reshape, rowOf}
+use Rattle.packing.proofs.Packs.{committee-packs, reshape-packs}
 use Rattle.unpacking.specs.Parts.{PartRead, plain, Wide, Listed}
 use Rattle.unpacking.specs.Unpacked.{RowOf, fullRow, snapRow, roomyRow, packedRow, GoodRow, RowRead}
 use Rattle.unpacking.proofs.Parts.{ends, lent-words, table-listed, both, renamed, filled-none, filled-next, filled-all}

@@ -13,8 +13,8 @@ use Rattle.rules.specs.Snapshot.{rowsWords, section}
 use Rattle.rules.proofs.Tests.{every-parts}
 use Rattle.tables.specs.Rows.{table}
 use Rattle.tables.proofs.Tables.{pad-is, rows-length}
-use Rattle.wellformed.specs.declared.RowKind.{RowKind}
-use Rattle.wellformed.specs.Check.{widthOf}
+use Rattle.row_tests.specs.declared.RowKind.{RowKind}
+use Rattle.row_tests.specs.Rows.{widthOf}
 use Rattle.unpacking.specs.AsWords.{AsWords}
 use Rattle.unpacking.specs.Parts.{PartRead, plain, Wide}
 use Rattle.unpacking.specs.Unpacked.{RowOf, fullRow, snapRow, roomyRow, RowRead, RowsRead, TableRead}

@@ -4,7 +4,7 @@ use mathlib.Core.Path.{_≡_}
 use mathlib.Core.List.{List, _++_}
 use lib.ListN.{length, getD, drop}
 use Rattle.tables.specs.Rows.{pad}
-use Rattle.snapshot.specs.Packed.{flat}
+use Rattle.packing.specs.Packed.{flat}
 
 -- what a read at word `at` of the words ws leaves in t, and its answer r: the next part's place, or one past the last word where there is no part
 -- pack: the part without its room; good: what the part may be

@@ -13,10 +13,10 @@ use Rattle.rules.specs.Snapshot.{rowsWords, section, settingsWords, machineWord
 use Rattle.tables.specs.Rows.{table}
 use Rattle.board.specs.Layout.{committeeRow, reshapeRow, settingsTable}
 use Rattle.board.specs.Held.{roomyCommittee, roomyReshape}
-use Rattle.wellformed.specs.declared.RowKind.{RowKind}
-use Rattle.wellformed.specs.declared.RowKind.the-variants.{Machines, Committees, Boundaries, Rotations, Reshapes}
-use Rattle.wellformed.specs.Check.{widthOf}
-use Rattle.snapshot.specs.Packed.{committee, reshape}
+use Rattle.row_tests.specs.declared.RowKind.{RowKind}
+use Rattle.row_tests.specs.declared.RowKind.the-variants.{Machines, Committees, Boundaries, Rotations, Reshapes}
+use Rattle.row_tests.specs.Rows.{widthOf}
+use Rattle.packing.specs.Packed.{committee, reshape}
 
 abbrev pub RowOf : RowKind → Type 0
 RowOf Machines = Entry Place

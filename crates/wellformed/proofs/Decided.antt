@@ -15,13 +15,16 @@ use Rattle.board.specs.Layout.{machineWidth, committeeWidth, boundaryWidth, rot
 use Rattle.board.specs.Permitted.{WellHeld}
 use Rattle.board.proofs.Widths.{board-wide}
 use Rattle.board.proofs.One.{well-formed-fits}
-use Rattle.wellformed.specs.declared.RowKind.the-variants.{Machines, Committees, Boundaries, Rotations, Reshapes}
+use Rattle.row_tests.specs.declared.RowKind.the-variants.{Machines, Committees, Boundaries, Rotations, Reshapes}
 use Rattle.wellformed.specs.Tells.{Tells}
-use Rattle.wellformed.specs.Check.{between, allPass, anyPass, rises, machineOk, committeeOk, boundaryOk, rotationOk, reshapeOk, kindOk, settingsOk, wellFormedWords}
-use Rattle.wellformed.proofs.Tests.{and-is, or-is, pass-parts, pass-joins}
-use Rattle.wellformed.proofs.Decides.{Words, Decides, table-decides}
-use Rattle.wellformed.proofs.Rows.{between-length, between-words, to-end, machine-decides, committee-decides, boundary-decides, rotation-decides, settings-decides}
-use Rattle.wellformed.proofs.Reshapes.{cut, join, reshape-decides}
+use Rattle.word_tests.specs.Tests.{between, allPass, anyPass, rises}
+use Rattle.row_tests.specs.Rows.{machineOk, committeeOk, boundaryOk, rotationOk, reshapeOk, kindOk}
+use Rattle.wellformed.specs.Check.{settingsOk, wellFormedWords}
+use Rattle.word_tests.proofs.Tests.{and-is, or-is, pass-parts, pass-joins}
+use Rattle.word_tests.proofs.Decides.{Words, Decides, table-decides}
+use Rattle.row_tests.proofs.Rows.{between-length, between-words, to-end, machine-decides, committee-decides, boundary-decides, rotation-decides}
+use Rattle.wellformed.proofs.Settings.{settings-decides}
+use Rattle.row_tests.proofs.Reshapes.{cut, join, reshape-decides}
 
 -- ---- the tables, each by the one law
 

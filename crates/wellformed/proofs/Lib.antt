@@ -1,8 +1,4 @@
-pub mod Tests
-pub mod Loops
-pub mod Turns
-pub mod Decides
-pub mod Rows
-pub mod Reshapes
+pub mod Settings
+pub mod Sections
 pub mod Decided
 pub mod Told

@@ -14,8 +14,10 @@ mod rng;
 mod series;
 pub mod small;
 mod table;
+mod tally;
 
 pub use limits::Reached;
 pub use rng::Rng;
-pub use series::{Call, Kind, Made, Series, Sizes, bytes_of, make_series};
+pub use series::{Call, Kind, Made, Series, Sizes, any_series, bytes_of, make_series};
 pub use table::{Table, can_occur, step_name};
+pub use tally::Tally;

@@ -95,6 +95,27 @@ pub fn make_series(rng: &mut Rng, kind: Kind, sizes: Sizes) -> Series {
     }
 }
 
+/// A series of any kind, on boards small and large.
+#[must_use]
+pub fn any_series(rng: &mut Rng) -> Series {
+    let kind = match rng.below(100) {
+        0..35 => Kind::Passing,
+        35..55 => Kind::Disturbed,
+        55..65 => Kind::Many,
+        65..85 => Kind::Limits,
+        85..95 => Kind::Misnumbered,
+        _ => Kind::Broken,
+    };
+    let many = kind == Kind::Many;
+    let sizes = Sizes {
+        size: if rng.chance(60) { (4, 9) } else { (4, 32) },
+        shards: if many { 6 } else { rng.between(1, 5) },
+        machines: rng.between(if many { 60 } else { 12 }, 256) as usize,
+        calls: rng.between(20, 160),
+    };
+    make_series(rng, kind, sizes)
+}
+
 /// How the next step and its arguments are found.
 type Choose = fn(&mut Rng, &Board) -> (Step, Args);
 

@@ -137,12 +137,14 @@ fn list(words: &[u64]) -> String {
     }
 }
 
-fn line(small: &Small) -> String {
+/// A call and the snapshot before it, as a line of the source file.
+#[must_use]
+pub fn line(before: &[u64], made: &Made) -> String {
     let Made {
         call,
         outcome,
         after,
-    } = &small.made;
+    } = made;
     let args = [call.args.shard, call.args.machine, call.args.side];
     // A refused read leaves no board.
     let after: &[u64] = if outcome.answer == 13 { &[] } else { after };
@@ -151,7 +153,7 @@ fn line(small: &Small) -> String {
         call.step as u64,
         list(&args),
         list(&call.draws),
-        list(&small.before),
+        list(before),
         outcome.answer,
         outcome.handled,
         outcome.used,
@@ -171,7 +173,8 @@ pub fn print_small(calls: &[Small]) -> String {
     let lists = calls.chunks(LIST);
     let names: Vec<String> = (1..=lists.len()).map(|n| format!("calls{n}")).collect();
     for (name, calls) in names.iter().zip(lists) {
-        let lines: Vec<String> = calls.iter().map(line).collect();
+        let lines = calls.iter().map(|small| line(&small.before, &small.made));
+        let lines: Vec<String> = lines.collect();
         let rows = lines.join("\n    ∷ ");
         let _ = write!(
             out,

@@ -6,7 +6,10 @@ use calls::{Call, Reached, Series};
 use plain::Slip;
 
 fn file() -> Vec<u8> {
-    let path = concat!(env!("CARGO_MANIFEST_DIR"), "/../../crates/replay/data/calls.bin");
+    let path = concat!(
+        env!("CARGO_MANIFEST_DIR"),
+        "/../../crates/replay/data/calls.bin"
+    );
     std::fs::read(path).expect("crates/replay/data/calls.bin is in the repository")
 }
 

@@ -12,6 +12,29 @@ use hyperscale_types::{
 
 pub const SEED: Randomness = Randomness([0; 32]);
 
+/// The state with these settings and nothing else.
+#[must_use]
+pub fn empty_state(settings: Settings) -> BeaconState {
+    BeaconState {
+        current_epoch: Epoch(settings.epoch),
+        randomness: SEED,
+        chain_config: to_config(settings),
+        validators: BTreeMap::new(),
+        next_shard_committees: BTreeMap::new(),
+        boundaries: BTreeMap::new(),
+        pending_rotations: BTreeMap::new(),
+        pending_reshapes: BTreeMap::new(),
+        pending_recoveries: BTreeMap::new(),
+        fork_flagged: BTreeMap::new(),
+        miss_counters: BTreeMap::new(),
+        pools: BTreeMap::new(),
+        committee: Vec::new(),
+        last_beacon_service: BTreeMap::new(),
+        given_victim: None,
+    }
+}
+
+#[must_use]
 pub fn to_state(board: &Board) -> BeaconState {
     let mut rotations: BTreeMap<ShardId, BTreeMap<ValidatorId, PendingRotation>> = BTreeMap::new();
     for ((shard, victim), row) in &board.rotations {
@@ -23,21 +46,12 @@ pub fn to_state(board: &Board) -> BeaconState {
         there.insert(ValidatorId(*victim), rotation);
     }
     BeaconState {
-        current_epoch: Epoch(board.settings.epoch),
-        randomness: SEED,
-        chain_config: to_config(board.settings),
         validators: keyed(&board.machines, ValidatorId, |_, place| to_record(*place)),
         next_shard_committees: keyed(&board.committees, ShardId, |_, ids| to_committee(ids)),
         boundaries: keyed(&board.boundaries, ShardId, |_, row| to_boundary(*row)),
         pending_rotations: rotations,
         pending_reshapes: keyed(&board.reshapes, ShardId, to_reshape),
-        pending_recoveries: BTreeMap::new(),
-        fork_flagged: BTreeMap::new(),
-        miss_counters: BTreeMap::new(),
-        pools: BTreeMap::new(),
-        committee: Vec::new(),
-        last_beacon_service: BTreeMap::new(),
-        given_victim: None,
+        ..empty_state(board.settings)
     }
 }
 
@@ -60,7 +74,8 @@ fn to_config(settings: Settings) -> BeaconChainConfig {
     }
 }
 
-fn to_record(place: Place) -> ValidatorRecord {
+#[must_use]
+pub fn to_record(place: Place) -> ValidatorRecord {
     let status = match place {
         Place::Pooled => ValidatorStatus::Pooled,
         Place::Seated {
@@ -92,7 +107,8 @@ fn to_committee(ids: &[u64]) -> ShardCommittee {
     }
 }
 
-fn to_boundary(row: Boundary) -> ShardBoundary {
+#[must_use]
+pub fn to_boundary(row: Boundary) -> ShardBoundary {
     ShardBoundary {
         boundary_qc: None,
         state_root: StateRoot::ZERO,
@@ -154,6 +170,7 @@ pub fn to_reshape(target: u64, reshape: &Reshape) -> PendingReshape {
     }
 }
 
+#[must_use]
 pub fn from_state(state: &BeaconState) -> Board {
     let mut board = Board::empty(from_config(state));
     for (id, record) in &state.validators {

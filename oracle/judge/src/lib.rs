@@ -6,5 +6,6 @@ mod convert;
 mod run;
 mod view;
 
+pub use convert::{SEED, empty_state, from_state, to_boundary, to_record, to_state};
 pub use run::{Panic, Ran, Turn, run};
 pub use view::{View, view};

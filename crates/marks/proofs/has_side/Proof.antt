@@ -3,7 +3,7 @@ use mathlib.Core.Bool.{Bool}
 use lib.Dec.{eqb}
 use borrow.Author.Needs.{needs}
 use Rattle.rules.specs.Lists.{_or_}
-use Rattle.wellformed.proofs.Tests.{or-is}
+use Rattle.word_tests.proofs.Tests.{or-is}
 use Rattle.marks.proofs.has_side.Statement.{statement}
 use Rattle.marks.proofs.has_side.Tie as tie
 

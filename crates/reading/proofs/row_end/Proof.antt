@@ -2,7 +2,7 @@ use mathlib.Core.Path.{sym, _∙_}
 use mathlib.Core.Logic.{inl, inr}
 use native.Mathlib.Omega.{arith}
 use borrow.Author.Tests.{not-true, not-false}
-use Rattle.wellformed.proofs.Decides.{words-all}
+use Rattle.word_tests.proofs.Decides.{words-all}
 use Rattle.unpacking.proofs.Bytes.{total}
 use Rattle.reading.proofs.Bytes.{bytes-as}
 use Rattle.reading.proofs.Streams.{row-missing, row-bad, row-falls, row-told}

@@ -1,7 +1,7 @@
 use mathlib.Core.Path.{refl, ap, _∙_}
 use native.Mathlib.Omega.{arith}
-use Rattle.wellformed.specs.declared.RowKind.the-variants.{Machines, Boundaries, Rotations}
-use Rattle.wellformed.specs.Check.{widthOf}
+use Rattle.row_tests.specs.declared.RowKind.the-variants.{Machines, Boundaries, Rotations}
+use Rattle.row_tests.specs.Rows.{widthOf}
 use Rattle.board.proofs.Widths.{machine-wide, boundary-wide, rotation-wide}
 use Rattle.unpacking.proofs.Rows.{of-kind, flat-read}
 use borrow.Author.Needs.{needs}

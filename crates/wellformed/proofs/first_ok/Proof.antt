@@ -1,6 +1,6 @@
 use mathlib.Core.Path.{sym, _∙_}
 use lib.Seq.{length-take-le}
-use Rattle.wellformed.proofs.Turns.{first-short, first-is}
+use Rattle.word_tests.proofs.Turns.{first-short, first-is}
 use borrow.Author.Needs.{needs}
 use Rattle.wellformed.proofs.first_ok.Statement.{statement}
 use Rattle.wellformed.proofs.first_ok.Tie as tie

@@ -1,4 +1,5 @@
-use Rattle.wellformed.specs.Check.{numbersOk, allPass}
+use Rattle.word_tests.specs.Tests.{allPass}
+use Rattle.wellformed.specs.Check.{numbersOk}
 use borrow.Author.Needs.{needs}
 use Rattle.wellformed.proofs.numbers_ok.Statement.{statement}
 use Rattle.wellformed.proofs.numbers_ok.Tie as tie

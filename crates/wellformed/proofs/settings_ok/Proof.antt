@@ -1,4 +1,5 @@
-use Rattle.wellformed.specs.Check.{settingsOk, allPass}
+use Rattle.word_tests.specs.Tests.{allPass}
+use Rattle.wellformed.specs.Check.{settingsOk}
 use borrow.Author.Needs.{needs}
 use Rattle.wellformed.proofs.settings_ok.Statement.{statement}
 use Rattle.wellformed.proofs.settings_ok.Tie as tie

@@ -4,8 +4,9 @@ use native.Mathlib.Omega.{arith}
 use borrow.Author.Needs.{needs}
 use borrow.Author.Tests.{not-true, not-false}
 use lib.ListN.{length, drop}
-use Rattle.wellformed.specs.Check.{rowOk, rises, inPairs, widthOf, rowsOk, kindOk}
-use Rattle.wellformed.proofs.Turns.{table-many, table-start, table-end, table-fails, table-room, table-more}
+use Rattle.word_tests.specs.Tests.{rises, rowsOk}
+use Rattle.row_tests.specs.Rows.{rowOk, inPairs, widthOf, kindOk}
+use Rattle.word_tests.proofs.Turns.{table-many, table-start, table-end, table-fails, table-room, table-more}
 use Rattle.wellformed.proofs.table_ok.Statement.{statement}
 use Rattle.wellformed.proofs.table_ok.Tie as tie
 

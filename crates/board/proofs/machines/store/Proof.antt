@@ -2,7 +2,7 @@ use mathlib.Core.Path.{_∙_}
 use mathlib.Core.List.{[], _∷_}
 use native.Mathlib.Omega.{arith}
 use lib.ListN.{length-set}
-use Rattle.tables.proofs.Parts.{filled}
+use Rattle.shifts.proofs.Parts.{filled}
 use Rattle.board.proofs.OfMachines.{machine-is}
 use borrow.Author.Needs.{needs}
 use Rattle.board.proofs.machines.store.Statement.{statement}

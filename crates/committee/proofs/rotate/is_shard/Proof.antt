@@ -1,5 +1,5 @@
 use mathlib.Core.Path.{sym}
-use Rattle.wellformed.proofs.Tests.{and-is}
+use Rattle.word_tests.proofs.Tests.{and-is}
 use Rattle.committee.proofs.rotate.is_shard.Statement.{statement}
 use Rattle.committee.proofs.rotate.is_shard.Tie as tie
 

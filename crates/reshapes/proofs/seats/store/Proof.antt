@@ -1,7 +1,7 @@
 use mathlib.Core.Path.{_∙_}
 use mathlib.Core.List.{[], _∷_}
 use Rattle.rules.specs.Snapshot.{seatWords}
-use Rattle.tables.proofs.Parts.{filled}
+use Rattle.shifts.proofs.Parts.{filled}
 use borrow.Author.Needs.{needs}
 use Rattle.reshapes.proofs.seats.store.Statement.{statement}
 use Rattle.reshapes.proofs.seats.store.Tie as tie

@@ -3,7 +3,7 @@ use native.Mathlib.Omega.{arith}
 use Prim.Native.Nat.{_+_}
 use lib.ListN.{length-set}
 use Rattle.rules.specs.Snapshot.{boundaryWords, flagOf, valueOf}
-use Rattle.tables.proofs.Parts.{filled}
+use Rattle.shifts.proofs.Parts.{filled}
 use borrow.Author.Needs.{needs}
 use Rattle.shards.proofs.bounds.store_new.Statement.{statement}
 use Rattle.shards.proofs.bounds.store_new.Tie as tie

@@ -1,6 +1,6 @@
 use mathlib.Core.List.{[], _∷_}
 use Rattle.rules.specs.Snapshot.{rotationWords}
-use Rattle.tables.proofs.Parts.{filled}
+use Rattle.shifts.proofs.Parts.{filled}
 use borrow.Author.Needs.{needs}
 use Rattle.shards.proofs.rotations.store.Statement.{statement}
 use Rattle.shards.proofs.rotations.store.Tie as tie

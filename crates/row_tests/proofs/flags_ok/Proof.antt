@@ -1,0 +1,32 @@
+use mathlib.Core.Path.{refl}
+use Rattle.word_tests.specs.Tests.{allPass}
+use Rattle.row_tests.specs.Rows.{flagsOk}
+use borrow.Author.Needs.{needs}
+use Rattle.row_tests.proofs.flags_ok.Statement.{statement}
+use Rattle.row_tests.proofs.flags_ok.Tie as tie
+
+shared-slice-read-result : tie.Need-shared-slice-read-result
+shared-slice-read-result c = search needs
+
+shared-slice-read-result-2 : tie.Need-shared-slice-read-result-2
+shared-slice-read-result-2 c = search needs
+
+shared-slice-read-result-3 : tie.Need-shared-slice-read-result-3
+shared-slice-read-result-3 c = search needs
+
+shared-slice-read-result-4 : tie.Need-shared-slice-read-result-4
+shared-slice-read-result-4 c = search needs
+
+returns : tie.Need-returns
+unfolding flagsOk allPass
+returns c = refl
+
+pub flags-ok-spec : {M : Type 1} → statement M
+flags-ok-spec =
+    tie.close
+    (tie.spec
+    shared-slice-read-result
+    shared-slice-read-result-2
+    shared-slice-read-result-3
+    shared-slice-read-result-4
+    returns)

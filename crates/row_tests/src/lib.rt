@@ -1,0 +1,187 @@
+// Tests of a row's words, of each kind of table.
+use board::layout::COMMITTEE_WIDTH;
+use board::layout::LEFT_AT;
+use board::layout::MEMBERS_AT;
+use board::layout::MOST_HALF;
+use board::layout::MOST_MEMBERS;
+use board::layout::MOST_SEATS;
+use board::layout::RESHAPE_WIDTH;
+use board::layout::RIGHT_AT;
+use board::layout::SEAT_WIDTH;
+use board::layout::SEATS_AT;
+ghost use mathlib.Core.Path.{_≡_};
+ghost use mathlib.Core.Bool.{false};
+ghost use Prim.Native.Nat.{_≤_};
+ghost use lib.ListN.{length};
+ghost use Rattle.board.specs.Layout.{machineWidth, committeeWidth, boundaryWidth, rotationWidth, seatWidth, reshapeWidth};
+ghost use Rattle.word_tests.specs.Tests.{rises, firstOk};
+ghost use Rattle.row_tests.specs.Rows.{machineOk, committeeOk, optionOk, boundaryOk, rotationOk, seatOk, seatsOk, epochsOk, flagsOk, halvesOk, reshapeOk, rowOk, widthOf};
+
+// ---- The ranges of rules/specs/Board.antt
+
+const LAST_STAMP: u64 = 8589934591;
+
+const LAST_SHARD: u64 = 65535;
+
+const LAST_TARGET: u64 = 32767;
+
+const LAST_MARK: u64 = 255;
+
+// ---- Rows
+
+// What a place's words may be, by its code (pooled, seated, observing, short, other): 0 where it does not use them.
+const MARK_LEAST: [u64; 5] = [0, 1, 1, 0, 1];
+
+const MARK_MOST: [u64; 5] = [0, LAST_SHARD, LAST_SHARD, 0, LAST_MARK];
+
+const READY_MOST: [u64; 5] = [0, 1, 0, 0, 0];
+
+const STAMP_MOST: [u64; 5] = [0, LAST_STAMP, LAST_STAMP, 0, 0];
+
+pub fn machine_ok(t: &[u64]) -> bool
+    requires { ⌜ length (now t) ≡ machineWidth ⌝ }
+    ensures { λ r. ⌜ r ≡ machineOk (now (t .entry)) ⌝ }
+{
+    let code = t[1];
+    if 4 < code {
+        return false;
+    }
+    let k = code as usize;
+    word_tests::inside(MARK_LEAST[k], MARK_MOST[k], t[2])
+        & (t[3] <= READY_MOST[k])
+        & (t[4] <= STAMP_MOST[k])
+}
+
+// The shard, then the members.
+fn committee_ok(t: &[u64]) -> bool
+    requires { ⌜ length (now t) ≡ committeeWidth ⌝ }
+    ensures { λ r. ⌜ r ≡ committeeOk (now (t .entry)) ⌝ }
+{
+    word_tests::inside(1, LAST_SHARD, t[0])
+        & word_tests::ids_ok(MOST_MEMBERS, &t[MEMBERS_AT..COMMITTEE_WIDTH])
+}
+
+// A flag and a value: none has no value.
+fn option_ok(f: u64, v: u64) -> bool
+    ensures { λ r. ⌜ r ≡ optionOk f v ⌝ }
+{
+    ((f == 0) & (v == 0)) | ((f == 1) & (v <= LAST_STAMP))
+}
+
+// Shard, height, formed, last live, then terminal and admitted, each a flag and an epoch; a height is any word.
+fn boundary_ok(t: &[u64]) -> bool
+    requires { ⌜ length (now t) ≡ boundaryWidth ⌝ }
+    ensures { λ r. ⌜ r ≡ boundaryOk (now (t .entry)) ⌝ }
+{
+    word_tests::inside(1, LAST_SHARD, t[0])
+        & (t[2] <= LAST_STAMP)
+        & (t[3] <= LAST_STAMP)
+        & option_ok(t[4], t[5])
+        & option_ok(t[6], t[7])
+}
+
+// Shard, victim, entrant, opened; an id is any word.
+fn rotation_ok(t: &[u64]) -> bool
+    requires { ⌜ length (now t) ≡ rotationWidth ⌝ }
+    ensures { λ r. ⌜ r ≡ rotationOk (now (t .entry)) ⌝ }
+{
+    word_tests::inside(1, LAST_SHARD, t[0]) & (t[3] <= LAST_STAMP)
+}
+
+// ---- Reshapes
+
+// Id, child, ready. The child is halved, and the target not doubled: it may be any number yet.
+fn seat_ok(target: u64, t: &[u64]) -> bool
+    requires { ⌜ length (now t) ≡ seatWidth ⌝ }
+    ensures { λ r. ⌜ r ≡ seatOk target (now (t .entry)) ⌝ }
+{
+    (t[1] / 2 == target) & (t[2] <= 1)
+}
+
+fn first_seat_ok(target: u64, n: usize, t: &[u64]) -> bool
+    ensures { λ r. ⌜ r ≡ firstOk (seatOk target) (rises false) seatWidth n (now (t .entry)) ⌝ }
+{
+    if t.len() < SEAT_WIDTH {
+        return false;
+    }
+    seat_ok(target, &t[..SEAT_WIDTH]) & ((n == 1) | word_tests::rises(false, t, &t[SEAT_WIDTH..]))
+}
+
+// A loop of its own: a table comes here through `reshape_ok`, and nothing recurs.
+fn seats_ok(target: u64, t: &[u64]) -> bool
+    requires { ⌜ 1 ≤ length (now t) ⌝ }
+    ensures { λ r. ⌜ r ≡ seatsOk target (now (t .entry)) ⌝ }
+{
+    let mut n = t[0] as usize;
+    if MOST_SEATS < n {
+        return false;
+    }
+    let mut a: usize = 1;
+    while 0 < n {
+        if !first_seat_ok(target, n, &t[a..]) {
+            return false;
+        }
+        a += SEAT_WIDTH;
+        n -= 1;
+    }
+    word_tests::all_zero(&t[a..])
+}
+
+// Target, admitted, drain-by and terminal.
+fn epochs_ok(t: &[u64]) -> bool
+    requires { ⌜ length (now t) ≡ reshapeWidth ⌝ }
+    ensures { λ r. ⌜ r ≡ epochsOk (now (t .entry)) ⌝ }
+{
+    word_tests::inside(1, LAST_TARGET, t[0])
+        & (t[2] <= LAST_STAMP)
+        & option_ok(t[3], t[4])
+        & option_ok(t[5], t[6])
+}
+
+// Kind, quiet left and quiet right: the last is at most the kind, so 0 for a split.
+fn flags_ok(t: &[u64]) -> bool
+    requires { ⌜ length (now t) ≡ reshapeWidth ⌝ }
+    ensures { λ r. ⌜ r ≡ flagsOk (now (t .entry)) ⌝ }
+{
+    (t[1] <= 1) & (t[7] <= 1) & (t[8] <= t[1])
+}
+
+// Distinct ids, and none unless a split has its terminal.
+fn halves_ok(t: &[u64]) -> bool
+    requires { ⌜ length (now t) ≡ reshapeWidth ⌝ }
+    ensures { λ r. ⌜ r ≡ halvesOk (now (t .entry)) ⌝ }
+{
+    word_tests::ids_ok(MOST_HALF, &t[LEFT_AT..RIGHT_AT])
+        & word_tests::ids_ok(MOST_HALF, &t[RIGHT_AT..RESHAPE_WIDTH])
+        & (((t[1] == 0) & (t[5] == 1)) | ((t[LEFT_AT] == 0) & (t[RIGHT_AT] == 0)))
+}
+
+fn reshape_ok(t: &[u64]) -> bool
+    requires { ⌜ length (now t) ≡ reshapeWidth ⌝ }
+    ensures { λ r. ⌜ r ≡ reshapeOk (now (t .entry)) ⌝ }
+{
+    epochs_ok(t) & flags_ok(t) & seats_ok(t[0], &t[SEATS_AT..LEFT_AT]) & halves_ok(t)
+}
+
+// ---- Any kind of rows
+
+pub enum RowKind {
+    Machines,
+    Committees,
+    Boundaries,
+    Rotations,
+    Reshapes,
+}
+
+pub fn row_ok(k: RowKind, t: &[u64]) -> bool
+    requires { ⌜ length (now t) ≡ widthOf k ⌝ }
+    ensures { λ r. ⌜ r ≡ rowOk k (now (t .entry)) ⌝ }
+{
+    match k {
+        RowKind::Machines => machine_ok(t),
+        RowKind::Committees => committee_ok(t),
+        RowKind::Boundaries => boundary_ok(t),
+        RowKind::Rotations => rotation_ok(t),
+        RowKind::Reshapes => reshape_ok(t),
+    }
+}

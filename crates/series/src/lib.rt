@@ -1,0 +1,1 @@
+// No code: what the exported calls keep, one after another.

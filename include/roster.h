@@ -1,0 +1,79 @@
+/* The proved seat roster, for C. Link libroster.a, which tools/native-lib makes.
+ *
+ * A board is roster_words() words, lent as a pointer and a number; any other number of words is answered 1. A step answers
+ * document 01's number and writes two words to `results` at every call: the count handled and the draws used. After a
+ * refusal every word of the board is as before; of a step over several shards (schedule, cut) the work on the shards before
+ * the refused one stands and is counted. Nothing is allocated, nothing is kept, and every call returns.
+ * What is lent to one call must not overlap. A pointer may be NULL only where the number beside it is 0.
+ */
+#ifndef ROSTER_H
+#define ROSTER_H
+
+#include <stddef.h>
+#include <stdint.h>
+
+#ifdef __cplusplus
+extern "C" {
+#endif
+
+#define ROSTER_WORDS 5861
+#define ROSTER_SNAPSHOT_MOST 46816
+
+/* Document 01's answers. */
+enum roster_answer {
+    ROSTER_DONE = 0,
+    ROSTER_NOT_WELL_FORMED = 1, /* board not well-formed */
+    ROSTER_LAST_EPOCH = 2,      /* tick at the last epoch */
+    ROSTER_OUT_OF_RANGE = 3,    /* shard 0 or over 65535, target over 32767, side over 1 */
+    ROSTER_NO_RECORD = 4,       /* leave, or a cut's half or seat: the machine has no record */
+    ROSTER_NO_BOUNDARY = 5,     /* admission, cut, or a terminal due: a boundary is missing */
+    ROSTER_NOT_THERE = 6,       /* mark: no such reshape, seat or side; cohort: need unmet; lapse: no split */
+    ROSTER_FAMILY_TAKEN = 7,    /* admission: family named already, a committee missing, or one to be made exists */
+    ROSTER_VICTIM_UNFIT = 8,    /* rotate: the victim is not seated there, or is a party already */
+    ROSTER_DRAW_MISSING = 9,    /* next needed draw is missing */
+    ROSTER_DRAW_TOO_LARGE = 10, /* next needed draw is larger than allowed */
+    ROSTER_NO_ROOM = 11,        /* a limit would be passed, room lent too short, or an id twice in a committee */
+    ROSTER_POOL_TOO_SMALL = 12, /* cohort draw with fewer than S pooled */
+    ROSTER_NOT_A_SNAPSHOT = 13  /* a snapshot isn't a well-formed board's */
+};
+
+/* How many words a board is, and the most bytes that a snapshot has. */
+uint64_t roster_words(void);
+uint64_t roster_snapshot_most(void);
+
+/* 1 if the words hold a well-formed board, else 0. */
+uint64_t roster_well_formed(const uint64_t *board, size_t words);
+
+/* The board whose snapshot the bytes are, into lent words; words past the board stay. Answers 0, 11, 13. */
+uint64_t roster_read(const uint8_t *snapshot, size_t bytes, uint64_t *board, size_t words);
+
+/* The board's snapshot into lent bytes, and how many it has; bytes past it stay. Answers 0, 1, 11. */
+uint64_t roster_write(const uint64_t *board, size_t words, uint8_t *snapshot, size_t bytes, uint64_t *length);
+
+/* The steps. */
+uint64_t roster_tick(uint64_t *board, size_t words, uint64_t results[2]);
+uint64_t roster_time_out(uint64_t *board, size_t words, uint64_t results[2]);
+uint64_t roster_mark_seat_ready(uint64_t *board, size_t words, uint64_t target, uint64_t machine, uint64_t results[2]);
+/* side 0 is left, and a split's only one; 1 is right */
+uint64_t roster_mark_quiet(uint64_t *board, size_t words, uint64_t target, uint64_t side, uint64_t results[2]);
+uint64_t roster_leave(uint64_t *board, size_t words, uint64_t machine, const uint64_t *draws, size_t number, uint64_t results[2]);
+/* `machine` is the victim */
+uint64_t roster_rotate(uint64_t *board, size_t words, uint64_t shard, uint64_t machine, const uint64_t *draws, size_t number,
+                       uint64_t results[2]);
+uint64_t roster_resolve(uint64_t *board, size_t words, uint64_t results[2]);
+uint64_t roster_admit_split(uint64_t *board, size_t words, uint64_t target, uint64_t results[2]);
+uint64_t roster_admit_merge(uint64_t *board, size_t words, uint64_t target, const uint64_t *draws, size_t number,
+                            uint64_t results[2]);
+uint64_t roster_draw_cohort(uint64_t *board, size_t words, uint64_t target, const uint64_t *draws, size_t number,
+                            uint64_t results[2]);
+uint64_t roster_lapse(uint64_t *board, size_t words, uint64_t target, uint64_t results[2]);
+uint64_t roster_schedule_splits(uint64_t *board, size_t words, const uint64_t *draws, size_t number, uint64_t results[2]);
+uint64_t roster_schedule_merges(uint64_t *board, size_t words, uint64_t results[2]);
+uint64_t roster_cut_splits(uint64_t *board, size_t words, uint64_t results[2]);
+uint64_t roster_cut_merges(uint64_t *board, size_t words, uint64_t results[2]);
+
+#ifdef __cplusplus
+}
+#endif
+
+#endif

@@ -1,0 +1,57 @@
+//! Times the proved library beside the original Rust, and prints the tables
+//! of docs/SPEED.md; or, by `speed WHAT BOARD TURNS`, does one thing again and
+//! again for a profiler to look at.
+
+mod boards;
+mod clock;
+mod depths;
+mod maps;
+mod proved;
+mod snapshot;
+mod stack;
+mod tables;
+
+use std::env;
+use std::hint::black_box;
+
+use boards::{SHAPES, base, situation, worst};
+use plain::Step;
+use proved::Room;
+
+fn main() {
+    let args: Vec<String> = env::args().skip(1).collect();
+    if let [what, shape, turns] = &args[..] {
+        spin(what, number(shape), number(turns));
+        return;
+    }
+    tables::print();
+    depths::print();
+}
+
+/// The check, a read, a write, or the step of a code.
+fn spin(what: &str, shape: usize, turns: usize) {
+    let board = SHAPES.get(shape).map_or_else(worst, |shape| base(*shape));
+    let mut room = Room::of(&board);
+    let act = match what {
+        "check" => Room::check,
+        "read" => Room::read,
+        "write" => Room::write,
+        code => return spin_step(code, shape, turns),
+    };
+    (0..turns).for_each(|_| act(&mut room));
+}
+
+fn spin_step(code: &str, shape: usize, turns: usize) {
+    let step = Step::from_code(number(code) as u64).expect("a step's code");
+    let at = situation(SHAPES[shape], step);
+    let template = proved::words(&at.board);
+    let mut words = template.clone();
+    for _ in 0..turns {
+        words.copy_from_slice(&template);
+        black_box(proved::act(&mut words, &at.call));
+    }
+}
+
+fn number(arg: &str) -> usize {
+    arg.parse().expect("a number")
+}
