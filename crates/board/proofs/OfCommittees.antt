@@ -1,6 +1,6 @@
 -- A committee's row: the shard, and the members' table.
 use Prim.Native.Nat.{ℕ, _+_, _-_, _*_, _≤_, _<_}
-use mathlib.Core.Path.{_≡_, refl, ap, sym, _∙_}
+use mathlib.Core.Path.{_≡_, refl, ap, _∙_}
 use mathlib.Core.List.{List, []}
 use mathlib.Core.Bool.{true}
 use native.Mathlib.Omega.{arith}
@@ -12,15 +12,13 @@ use Rattle.rules.specs.Lists.{strike}
 use Rattle.rules.specs.Table.{Entry, entry, Table}
 use Rattle.rules.specs.Board.{Board, mostCommittees, mostMembers, onCommittees}
 use Rattle.rules.specs.Snapshot.{idWords, rowsWords}
-use Rattle.tables.specs.Rows.{pad, idTable, table, without, Row, wordsIn, keyIn, insertAt}
+use Rattle.tables.specs.Rows.{pad, idTable, insertAt}
 use Rattle.tables.proofs.Tables.{table-length}
 use Rattle.tables.proofs.Ids.{id-at}
 use Rattle.tables.proofs.Drops.{keep-most}
-use Rattle.tables.proofs.Typed.{dropped-as, strike-is-without}
 use Rattle.board.specs.Layout.{committeeWidth, committeesAt, membersAt, committeeRow, encode}
 use Rattle.board.specs.Held.{roomyCommittee, Holds, noCommittee}
 use Rattle.board.specs.Leaves.{changeAt}
-use Rattle.board.proofs.Widths.{id-wide}
 use Rattle.board.proofs.Sections.{committees, members-spot, key-stored, part-lent, part-back, part-first, part-word}
 use Rattle.board.proofs.Fitting.{every-at, every-set, insert-at, set-insert, insert-length, set-room, held-committees}
 
@@ -84,16 +82,6 @@ module _ (ws : List ℕ) (b : Board) (h : Holds ws b) (j : ℕ) (l : j < length 
       (part-back committees ws b h j noCommittee l (entry (row .key)) (members-spot (row .key)) (row .val) refl (1 + mostMembers) wide (f (row .val)) p e)
       (set-room mostCommittees (b .committees) j _ (h .fits .committees))
       (every-set roomyCommittee (b .committees) j _ (h .fits .members) (roomy (entry (row .key) (f (row .val))) m))
-
-id-key : (y : ℕ) → getD (idWords y) 0 0 ≡ y
-unfolding idWords
-id-key y = refl
-
--- `drop_rows` strikes an id
-pub struck : (cap x : ℕ) (l t u : List ℕ) → t ≡ idTable cap l → length l ≤ cap
-    → ((rs : List (Row 1)) → t ≡ table wordsIn 1 cap rs → length rs ≤ cap → u ≡ table wordsIn 1 cap (without keyIn x rs))
-    → u ≡ idTable cap (strike x l)
-struck cap x l t u e h g = dropped-as idWords 1 id-wide cap l t u e (λ y. y) id-key x h g ∙ ap (idTable cap) (sym (strike-is-without x l))
 
 -- the row that `open_row` made at j gets its shard
 pub committee-opened : (ws : List ℕ) (b : Board) (j s : ℕ) → Holds ws (onCommittees (λ t. insertAt t j noCommittee) b) → j ≤ length (b .committees)

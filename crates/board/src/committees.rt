@@ -95,7 +95,7 @@ pub fn strike_member(ws: &mut [u64], j: usize, id: ValidatorId)
 {
     let a = COMMITTEES_AT + 1 + j * COMMITTEE_WIDTH + MEMBERS_AT;
     let e = a + MEMBERS_SIZE;
-    tables::drop_rows(&mut ws[a..e], 1, MOST_MEMBERS, id.0);
+    tables::strike_id(&mut ws[a..e], MOST_MEMBERS, id.0);
 }
 
 // All members go.

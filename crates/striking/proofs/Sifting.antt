@@ -1,26 +1,23 @@
 -- A committee's members while the seated are taken out: those kept, in front, and those to come.
-use Prim.Native.Nat.{ℕ, suc, _+_, _-_, _*_, _≤_, _<_}
+use Prim.Native.Nat.{ℕ, _+_, _-_, _*_, _≤_, _<_}
 use mathlib.Core.Path.{_≡_, refl, ap, sym, _∙_}
-use mathlib.Core.List.{List, [], _∷_, _++_, append-assoc, append-nil}
+use mathlib.Core.List.{List, _++_}
 use mathlib.Core.Bool.{Bool, true, false, false≢true}
 use native.Mathlib.Omega.{arith}
-use native.Mathlib.Numerals.{add-one}
 use borrow.Rule.Slice.PartMut.{putMid}
 use lib.Dec.{eqb}
-use lib.ListN.{length, getD, set, take, drop, replicate, length-append, length-drop, length-set, length-take, take-append-drop, replicate-append-replicate}
-use lib.Seq.{getD-drop, drop-drop, take-suc, take-all, take-set-le, drop-set-lt, take-suc-set, set-append-left, set-set, set-getD, getD-set-same, length-take-le}
+use lib.ListN.{length, getD, set, take, drop, length-drop, length-set, take-append-drop}
+use lib.Seq.{set-set, set-getD, getD-set-same, length-take-le}
 use Rattle.types.specs.Numbers.{Id}
 use Rattle.rules.specs.Lists.{bitOf, keep}
 use Rattle.rules.specs.Table.{Entry, entry, Table, isSome, stands, update}
 use Rattle.rules.specs.Board.{Board, mostCommittees, mostMembers, onCommittees}
 use Rattle.rules.specs.WellFormed.{wellFormed}
 use Rattle.rules.proofs.Tests.{eq-of, of-eq}
-use Rattle.tables.specs.Rows.{Rising, keyOf, placeOf, idTable}
-use Rattle.shifts.proofs.Parts.{Spot, spot-store, mid-read, mid-put}
-use Rattle.tables.proofs.Tables.{pad-is}
-use Rattle.tables.proofs.Ids.{id-words}
+use Rattle.shifts.proofs.Parts.{Spot, spot-store}
+use Rattle.tables.specs.Rows.{Rising, keyOf, placeOf}
 use Rattle.tables.proofs.Keys.{at-is, at-is-none, update-none}
-use Rattle.tables.proofs.Drops.{keep-append, keep-most}
+use Rattle.tables.proofs.Sifted.{id-set, Sifted, sifted-none, sifted-few, sifted-next, sifted-more, sifted-all}
 use Rattle.board.specs.Layout.{boardSize, committeesAt, committeeWidth, membersAt}
 use Rattle.board.specs.Held.{Holds, noCommittee}
 use Rattle.board.specs.Leaves.{changeAt}
@@ -28,33 +25,6 @@ use Rattle.board.proofs.Fitting.{held-as}
 use Rattle.board.proofs.Keyed.{committees-rise, update-is-change}
 use Rattle.board.proofs.OfCommittees.{members-room, members-lent, members-back}
 use Rattle.rows.specs.Found.{Found}
-
--- ---- a list of ids in words
-
-module _ (cap : ℕ) (l : List ℕ) (room : length l ≤ cap) where
-  id-set : (m x : ℕ) → m < length l → set (idTable cap l) (1 + m) x ≡ idTable cap (set l m x)
-  id-set m x h =
-      let s : 1 + m ≡ suc m = omega arith in
-      rw (id-words cap l, id-words cap (set l m x), length-set l m x, s)
-      (ap (λ (z : List ℕ). length l ∷ z)
-      (ap (λ (z : List ℕ). set z m x) (pad-is cap l room) ∙ set-append-left l (replicate (cap - length l) 0) m x h
-      ∙ sym (pad-is cap (set l m x) (rw (length-set l m x) room) ∙ rw (length-set l m x))))
-
-  -- the room past the first k zeroed, and the count set
-  pub cut-words : (t v : List ℕ) (n k : ℕ) → t ≡ idTable cap l → n ≡ length l → k ≤ length l → v ≡ replicate (length (take (1 + n - (1 + k)) (drop (1 + k) t))) 0
-      → set (putMid (1 + k) (1 + n - (1 + k)) t v) 0 k ≡ idTable cap (take k l)
-  cut-words t v n k e q h z =
-      let P : List ℕ = length l ∷ take k l in
-      let Z : List ℕ = replicate (cap - length l) 0 in
-      let tk : length (take k l) ≡ k = length-take-le k l h in
-      let w : t ≡ P ++ (drop k l ++ Z) =
-      e ∙ id-words cap l ∙ ap (λ (y : List ℕ). length l ∷ y) (pad-is cap l room ∙ ap (λ (y : List ℕ). y ++ Z) (sym (take-append-drop k l)) ∙ append-assoc (take k l) (drop k l) Z) in
-      let p : length P ≡ 1 + k = omega (arith, tk) in
-      let d : length (drop k l) ≡ 1 + n - (1 + k) = omega (arith, length-drop k l) in
-      let both : cap - k ≡ (1 + n - (1 + k)) + (cap - length l) = omega arith in
-      ap (λ (y : List ℕ). set y 0 k) (mid-put P (drop k l) Z t v (1 + k) (1 + n - (1 + k)) w p d)
-      ∙ rw (z, mid-read P (drop k l) Z t (1 + k) (1 + n - (1 + k)) w p d, d, id-words cap (take k l), tk, pad-is cap (take k l) (omega arith), tk, both)
-      (ap (λ (y : List ℕ). k ∷ (take k l ++ y)) (replicate-append-replicate {A = ℕ} (1 + n - (1 + k)) (cap - length l) 0))
 
 -- a store in a part is a store in the whole
 part-stored : (ws : List ℕ) (a n c v : ℕ) → a + n ≤ length ws → c < n → set ws (a + c) v ≡ putMid a n ws (set (take n (drop a ws)) c v)
@@ -84,28 +54,21 @@ changed-twice t d j f v l = rw (getD-set-same t j (entry (getD t j d .key) v) d 
 abbrev membersIn : ℕ → Board → List Id
 membersIn j b = getD (b .committees) j noCommittee .val
 
--- m of the members of the committee at j have been tried: those kept, k of them, stand in front
+-- m of the members of the committee at j have been tried, and k of them kept
 pub record Halfway (f : Id → Bool) (b : Board) (j m k : ℕ) (ws : List ℕ) : Type 0 where
   pub members : List Id
   pub held : Holds ws (onCommittees (changeAt noCommittee j (λ _. members)) b)
-  pub kept : take k members ≡ keep f (take m (membersIn j b))
-  pub rest : drop m members ≡ drop m (membersIn j b)
-  pub size : length members ≡ length (membersIn j b)
-  pub place : k ≡ length (keep f (take m (membersIn j b)))
+  pub sifted : Sifted f (membersIn j b) m k members
 
 module _ (f : Id → Bool) (b : Board) (j : ℕ) (l : j < length (b .committees)) (ws : List ℕ) where
   abbrev all : List Id
   all = membersIn j b
 
   pub none-tried : Holds ws b → Halfway f b j 0 0 ws
-  unfolding keep
   none-tried h = record {
     members = all;
     held = held-as ws _ _ (ap (λ (t : Table (List Id)). onCommittees (λ _. t) b) (sym (set-getD (b .committees) j noCommittee))) h;
-    kept = refl;
-    rest = refl;
-    size = refl;
-    place = refl;
+    sifted = sifted-none f all;
   }
 
   module _ (m k : ℕ) (w : Halfway f b j m k ws) (after : List ℕ) where
@@ -118,9 +81,6 @@ module _ (f : Id → Bool) (b : Board) (j : ℕ) (l : j < length (b .committees)
     members-there : membersIn j halfway ≡ w .members
     members-there = ap (λ (e : Entry (List Id)). e .val) (getD-set-same (b .committees) j (entry (getD (b .committees) j noCommittee .key) (w .members)) noCommittee l)
 
-    few : k ≤ length (w .members)
-    few = omega (arith, w .place, w .size, keep-most f (take m all), length-take m all)
-
     changed : (g : List Id → List Id) → Holds after (onCommittees (changeAt noCommittee j g) halfway) → Holds after (onCommittees (changeAt noCommittee j (λ _. g (w .members))) b)
     changed g h = held-as after _ _ (ap (λ (t : Table (List Id)). onCommittees (λ _. t) b) (changed-twice (b .committees) noCommittee j g (w .members) l)) h
 
@@ -128,53 +88,23 @@ module _ (f : Id → Bool) (b : Board) (j : ℕ) (l : j < length (b .committees)
         → ((c : Board) → Holds ws c → j < length (c .committees) → m < length (membersIn j c) → x ≡ getD (membersIn j c) m 0)
         → ((c : Board) → Holds ws c → j < length (c .committees) → k < length (membersIn j c) → Holds after (onCommittees (changeAt noCommittee j (λ s. set s k x)) c))
         → (r : ℕ) → ((c : Board) → Holds after c → c .reshapes ≡ b .reshapes → r ≡ bitOf (f x)) → Halfway f b j (m + 1) (k + r) after
-    unfolding keep
     one-tried n o x read store r told =
         let is : x ≡ getD all m 0 =
-        read halfway (w .held) stands-there (rw members-there (omega (arith, w .size))) ∙ rw members-there (sym (first (w .members)) ∙ ap (λ (s : List Id). getD s 0 0) (w .rest) ∙ first all) in
-        let more : keep f (take (m + 1) all) ≡ keep f (take m all) ++ keep f (x ∷ []) =
-        rw (add-one m, take-suc all m 0 n, ← is) (keep-append f (take m all) (x ∷ [])) in
-        go (f x) refl more (told _ held refl)
-      where
-        first : (s : List Id) → getD (drop m s) 0 0 ≡ getD s m 0
-        first s = getD-drop m s 0 0 ∙ ap (λ (y : ℕ). getD s y 0) (omega arith)
-
-        held : Holds after (onCommittees (changeAt noCommittee j (λ _. set (w .members) k x)) b)
-        held = changed (λ s. set s k x) (store halfway (w .held) stands-there (rw members-there (omega (arith, w .size))))
-
-        rest : drop (m + 1) (set (w .members) k x) ≡ drop (m + 1) all
-        rest = drop-set-lt (m + 1) (w .members) k x (omega arith) ∙ sym (drop-drop 1 m (w .members)) ∙ ap (drop 1) (w .rest) ∙ drop-drop 1 m all
-
-        go : (c : Bool) → f x ≡ c → keep f (take (m + 1) all) ≡ keep f (take m all) ++ keep f (x ∷ []) → r ≡ bitOf (f x) → Halfway f b j (m + 1) (k + r) after
-        go true p more e =
-            let one : r ≡ 1 = rw p at e in
-            let kept : keep f (take (m + 1) all) ≡ keep f (take m all) ++ (x ∷ []) = more ∙ rw p in
-            record {
-              members = set (w .members) k x;
-              held = held;
-              kept = rw (one, kept, add-one k, take-suc-set (w .members) k x (omega (arith, w .size))) (ap (λ (s : List Id). s ++ (x ∷ [])) (w .kept));
-              rest = rest;
-              size = length-set (w .members) k x ∙ w .size;
-              place = rw kept (omega (arith, one, w .place, length-append (keep f (take m all)) (x ∷ [])));
-            }
-        go false p more e =
-            let none : r ≡ 0 = rw p at e in
-            let kept : keep f (take (m + 1) all) ≡ keep f (take m all) = more ∙ rw p (append-nil (keep f (take m all))) in
-            let same : k + r ≡ k = omega arith in
-            record {
-              members = set (w .members) k x;
-              held = held;
-              kept = rw (same, kept) (take-set-le k (w .members) k x (omega arith) ∙ w .kept);
-              rest = rest;
-              size = length-set (w .members) k x ∙ w .size;
-              place = rw kept (omega (arith, none, w .place));
-            }
+        read halfway (w .held) stands-there (rw members-there (omega (arith, w .sifted .size))) ∙ rw members-there (sifted-next f all m k (w .members) (w .sifted)) in
+        let held : Holds after (onCommittees (changeAt noCommittee j (λ _. set (w .members) k x)) b) =
+        changed (λ s. set s k x) (store halfway (w .held) stands-there (rw members-there (omega (arith, w .sifted .size)))) in
+        let bit : r ≡ bitOf (f x) = told _ held refl in
+        record {
+          members = set (w .members) k x;
+          held = held;
+          sifted = sifted-more f all m k (w .members) (w .sifted) n o x is (k + r) (ap (λ (y : ℕ). k + y) bit);
+        }
 
     pub all-tried : length all ≤ m → ((c : Board) → Holds ws c → j < length (c .committees) → k ≤ length (membersIn j c) → Holds after (onCommittees (changeAt noCommittee j (take k)) c))
         → Holds after (onCommittees (changeAt noCommittee j (keep f)) b)
     all-tried n cut =
-        held-as after _ _ (ap (λ (s : List Id). onCommittees (changeAt noCommittee j (λ _. s)) b) (w .kept ∙ ap (keep f) (take-all m all n)))
-        (changed (take k) (cut halfway (w .held) stands-there (rw members-there few)))
+        held-as after _ _ (ap (λ (s : List Id). onCommittees (changeAt noCommittee j (λ _. s)) b) (sifted-all f all m k (w .members) (w .sifted) n))
+        (changed (take k) (cut halfway (w .held) stands-there (rw members-there (sifted-few f all m k (w .members) (w .sifted)))))
 
 -- ---- a seat looked for
 

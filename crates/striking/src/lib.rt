@@ -12,15 +12,14 @@ use reshapes::seats;
 use types::ShardId;
 use types::ValidatorId;
 ghost use mathlib.Core.Path.{_≡_};
-ghost use mathlib.Core.List.{List};
 ghost use mathlib.Core.Bool.{true, not};
-ghost use Prim.Native.Nat.{ℕ, _+_, _<_, _≤_};
+ghost use Prim.Native.Nat.{_<_, _≤_};
 ghost use lib.ListN.{length, getD, set, take};
 ghost use Rattle.rules.specs.Lists.{keep};
 ghost use Rattle.rules.specs.Table.{stands, update};
 ghost use Rattle.rules.specs.Board.{Board, mostCommittees, mostMembers, mostReshapes, onCommittees};
 ghost use Rattle.rules.specs.WellFormed.{wellFormed};
-ghost use Rattle.tables.specs.Rows.{Rising, keyOf, idTable};
+ghost use Rattle.tables.specs.Rows.{Rising, keyOf};
 ghost use Rattle.board.specs.Layout.{boardSize};
 ghost use Rattle.board.specs.Held.{Holds, noCommittee, noReshape};
 ghost use Rattle.board.specs.Leaves.{changeAt};
@@ -36,24 +35,7 @@ fn put_member(board: &mut [u64], j: usize, m: usize, id: ValidatorId)
     board[a + (1 + m)] = id.0;
 }
 
-// Only the first k ids of a list stay.
-fn cut(t: &mut [u64], cap: usize, k: usize)
-    requires { ⌜ (length (now t) ≡ 1 + cap) × (cap < 4096) ⌝ }
-    ensures { λ _. ⌜ ((l : List ℕ) → now (t .entry) ≡ idTable cap l → length l ≤ cap → k ≤ length l → now (t .exit) ≡ idTable cap (take k l)) ⌝ }
-{
-    let n = t[0] as usize;
-    if cap < n {
-        return;
-    }
-    if n < k {
-        return;
-    }
-    let a = 1 + k;
-    let e = 1 + n;
-    shifts::clear(&mut t[a..e]);
-    t[0] = k as u64;
-}
-
+// Only the first k stay.
 fn cut_members(board: &mut [u64], j: usize, k: usize)
     requires { ⌜ (length (now board) ≡ boardSize) × (j < mostCommittees) ⌝ }
     ensures { λ _. ⌜ ((b : Board) → Holds (now (board .entry)) b → j < length (b .committees) → k ≤ length (getD (b .committees) j noCommittee .val) →
@@ -61,7 +43,7 @@ fn cut_members(board: &mut [u64], j: usize, k: usize)
 {
     let a = COMMITTEES_AT + 1 + j * COMMITTEE_WIDTH + MEMBERS_AT;
     let e = a + MEMBERS_SIZE;
-    cut(&mut board[a..e], MOST_MEMBERS, k);
+    tables::cut(&mut board[a..e], MOST_MEMBERS, k);
 }
 
 // ---- those with no seat

@@ -3,4 +3,5 @@ pub mod Tables
 pub mod Keys
 pub mod Drops
 pub mod Ids
+pub mod Sifted
 pub mod Typed

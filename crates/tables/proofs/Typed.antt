@@ -6,7 +6,7 @@ use mathlib.Core.Bool.{Bool, true, false, cond, not}
 use native.Mathlib.Omega.{arith}
 use lib.Dec.{eqb, leb, ltb}
 use lib.ListN.{length, length-map, getD, replicate}
-use Rattle.rules.specs.Lists.{keep, strike}
+use Rattle.rules.specs.Lists.{keep}
 use Rattle.rules.specs.Table.{Table, remove}
 use Rattle.rules.specs.WellFormed.{rising}
 use Rattle.rules.specs.Snapshot.{rowsWords}
@@ -97,11 +97,7 @@ module _ {A : Type 0} (f : A → List ℕ) (w : ℕ) (fw : (x : A) → length (f
           (map-rising asRow (λ x y. ltb (keyIn x) (keyIn y)) (λ x y. ltb (key x) (key y)) (λ x y. rw (first x, first y)) xs ∙ h)
           ∙ map-first asRow (λ x. leb k (keyIn x)) (λ x. leb k (key x)) (λ x. rw (first x)) xs
 
--- the definitions' names for rows taken out by key
-pub strike-is-without : (x : ℕ) (l : List ℕ) → strike x l ≡ without (λ y. y) x l
-unfolding strike
-strike-is-without x l = refl
-
+-- the definitions' name for rows taken out by key
 pub remove-is-without : {A : Type 0} (k : ℕ) (t : Table A) → remove k t ≡ without keyOf k t
 unfolding remove keep
 remove-is-without k [] = refl

@@ -4,8 +4,8 @@ ghost use mathlib.Core.List.{List, [], _∷_, _++_};
 ghost use Prim.Native.Nat.{ℕ, _+_, _*_, _-_, _<_, _≤_};
 ghost use mathlib.Core.Bool.{not};
 ghost use lib.Dec.{eqb};
-ghost use lib.ListN.{length, getD, replicate};
-ghost use Rattle.rules.specs.Lists.{bitOf, has};
+ghost use lib.ListN.{length, getD, take, replicate};
+ghost use Rattle.rules.specs.Lists.{bitOf, has, strike};
 ghost use Rattle.tables.specs.Rows.{table, idTable, insertAt, removeAt, Rising, placeOf, without, Row, wordsIn, keyIn};
 ghost use Rattle.shifts.specs.Moved.{movedDown};
 
@@ -140,4 +140,41 @@ pub fn contains(t: &[u64], cap: usize, x: u64) -> bool
         i += 1;
     }
     found
+}
+
+// Only the first n ids stay, and the room of the others is zeroed.
+pub fn cut(t: &mut [u64], cap: usize, n: usize)
+    requires { ⌜ (length (now t) ≡ 1 + cap) × (cap < 4096) ⌝ }
+    ensures { λ _. ⌜ ((l : List ℕ) → now (t .entry) ≡ idTable cap l → length l ≤ cap → n ≤ length l → now (t .exit) ≡ idTable cap (take n l)) ⌝ }
+{
+    let all = t[0] as usize;
+    if cap < all {
+        return;
+    }
+    if all < n {
+        return;
+    }
+    let a = 1 + n;
+    let e = 1 + all;
+    shifts::clear(&mut t[a..e]);
+    t[0] = n as u64;
+}
+
+// An id is struck: those after it close ranks.
+pub fn strike_id(t: &mut [u64], cap: usize, x: u64)
+    requires { ⌜ (length (now t) ≡ 1 + cap) × (cap < 4096) ⌝ }
+    ensures { λ _. ⌜ ((l : List ℕ) → now (t .entry) ≡ idTable cap l → length l ≤ cap → now (t .exit) ≡ idTable cap (strike x l)) ⌝ }
+{
+    let n = rows_within(t, cap);
+    let mut k: usize = 0;
+    let mut i: usize = 0;
+    while i < n {
+        let y = t[1 + i];
+        t[1 + k] = y;
+        if y != x {
+            k += 1;
+        }
+        i += 1;
+    }
+    cut(t, cap, k);
 }

@@ -1,9 +1,8 @@
 use native.Mathlib.Omega.{arith}
 use lib.ListN.{getD}
-use Rattle.rules.specs.Board.{mostMembers}
 use Rattle.rules.specs.Lists.{strike}
 use Rattle.board.specs.Held.{noCommittee}
-use Rattle.board.proofs.OfCommittees.{members-room, members-lent, members-back, struck, strike-most}
+use Rattle.board.proofs.OfCommittees.{members-room, members-lent, members-back, strike-most}
 use borrow.Author.Needs.{needs}
 use Rattle.board.proofs.committees.strike_member.Statement.{statement}
 use Rattle.board.proofs.committees.strike_member.Tie as tie
@@ -13,7 +12,7 @@ returns c = λ b h l.
     let a = c .before .before .before .before .before .args in
     let m = members-room _ b h (a .j) l in
     let v = getD (b .committees) (a .j) noCommittee .val in
-    members-back _ b h (a .j) l (strike (a .id .0)) _ (struck mostMembers (a .id .0) v _ _ (members-lent _ b h (a .j) l) m (c .before .before .drop-rows .ensures))
+    members-back _ b h (a .j) l (strike (a .id .0)) _ (c .before .before .strike-id .ensures v (members-lent _ b h (a .j) l) m)
     (omega (arith, strike-most (a .id .0) v))
 
 pub strike-member-spec : {M : Type 1} → statement M

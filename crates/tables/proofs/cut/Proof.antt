@@ -1,9 +1,9 @@
 use native.Mathlib.Omega.{arith}
 use Rattle.tables.proofs.Ids.{id-count}
-use Rattle.striking.proofs.Sifting.{cut-words}
+use Rattle.tables.proofs.Sifted.{cut-words}
 use borrow.Author.Needs.{needs}
-use Rattle.striking.proofs.cut.Statement.{statement}
-use Rattle.striking.proofs.cut.Tie as tie
+use Rattle.tables.proofs.cut.Statement.{statement}
+use Rattle.tables.proofs.cut.Tie as tie
 
 returns : tie.Need-returns
 returns c = λ l e h k. absurd (omega (arith, id-count (c .before .before .before .args .cap) l _ e, c .if1 .taken))
