@@ -29,7 +29,7 @@ ghost use Rattle.carved.specs.Rows.{splitFits};
 
 // ---- halves
 
-fn is_in_left(board: &[u64], i: usize, id: ValidatorId) -> bool
+pub fn is_in_left(board: &[u64], i: usize, id: ValidatorId) -> bool
     requires { ⌜ (length (now board) ≡ boardSize) × (i < mostReshapes) ⌝ }
     ensures { λ r. ⌜ ((b : Board) → Holds (now (board .entry)) b → i < length (b .reshapes) → r ≡ has (id .0) (getD (b .reshapes) i noReshape .val .left)) ⌝ }
 {
@@ -38,7 +38,7 @@ fn is_in_left(board: &[u64], i: usize, id: ValidatorId) -> bool
     tables::contains(&board[a..e], MOST_HALF, id.0)
 }
 
-fn is_in_right(board: &[u64], i: usize, id: ValidatorId) -> bool
+pub fn is_in_right(board: &[u64], i: usize, id: ValidatorId) -> bool
     requires { ⌜ (length (now board) ≡ boardSize) × (i < mostReshapes) ⌝ }
     ensures { λ r. ⌜ ((b : Board) → Holds (now (board .entry)) b → i < length (b .reshapes) → r ≡ has (id .0) (getD (b .reshapes) i noReshape .val .right)) ⌝ }
 {
@@ -48,7 +48,7 @@ fn is_in_right(board: &[u64], i: usize, id: ValidatorId) -> bool
 }
 
 // A machine seated on the target is in one half of the split at i.
-fn is_in_one_half(board: &[u64], i: usize, target: ShardId, m: Machine) -> bool
+pub fn is_in_one_half(board: &[u64], i: usize, target: ShardId, m: Machine) -> bool
     requires { ⌜ (length (now board) ≡ boardSize) × (i < mostReshapes) ⌝ }
     ensures { λ r. ⌜ ((b : Board) → Holds (now (board .entry)) b → i < length (b .reshapes) →
         r ≡ isInOneHalf (target .0) (getD (b .reshapes) i noReshape .val) (machineEntry m)) ⌝ }

@@ -51,14 +51,14 @@ fn family_free(board: &[u64], target: ShardId) -> bool
     true
 }
 
-fn has_committee(board: &[u64], shard: ShardId) -> bool
+pub fn has_committee(board: &[u64], shard: ShardId) -> bool
     requires { ⌜ length (now board) ≡ boardSize ⌝ }
     ensures { λ r. ⌜ ((b : Board) → Holds (now (board .entry)) b → wellFormed b ≡ true → r ≡ stands (shard .0) (b .committees)) ⌝ }
 {
     rows::committee_row(board, shard) < MOST_COMMITTEES
 }
 
-fn has_bound(board: &[u64], shard: ShardId) -> bool
+pub fn has_bound(board: &[u64], shard: ShardId) -> bool
     requires { ⌜ length (now board) ≡ boardSize ⌝ }
     ensures { λ r. ⌜ ((b : Board) → Holds (now (board .entry)) b → wellFormed b ≡ true → r ≡ stands (shard .0) (b .bounds)) ⌝ }
 {

@@ -62,7 +62,7 @@ pub fn members_are_there(board: &[u64]) -> bool
 
 // ---- machines
 
-fn is_member(board: &[u64], shard: ShardId, id: ValidatorId) -> bool
+pub fn is_member(board: &[u64], shard: ShardId, id: ValidatorId) -> bool
     requires { ⌜ length (now board) ≡ boardSize ⌝ }
     ensures { λ r. ⌜ ((b : Board) → Holds (now (board .entry)) b → wellFormed b ≡ true → r ≡ has (id .0) (membersOf (shard .0) b)) ⌝ }
 {
@@ -73,7 +73,7 @@ fn is_member(board: &[u64], shard: ShardId, id: ValidatorId) -> bool
     committees::has_member(board, j, id)
 }
 
-fn has_cohort_seat(board: &[u64], target: ShardId, id: ValidatorId) -> bool
+pub fn has_cohort_seat(board: &[u64], target: ShardId, id: ValidatorId) -> bool
     requires { ⌜ length (now board) ≡ boardSize ⌝ }
     ensures { λ r. ⌜ ((b : Board) → Holds (now (board .entry)) b → wellFormed b ≡ true → r ≡ hasCohortSeat (target .0) (id .0) b) ⌝ }
 {
@@ -88,7 +88,7 @@ fn has_cohort_seat(board: &[u64], target: ShardId, id: ValidatorId) -> bool
 }
 
 // A machine on a shard is a member there; one that observes it has a seat in a split there too.
-fn is_listed(board: &[u64], m: Machine) -> bool
+pub fn is_listed(board: &[u64], m: Machine) -> bool
     requires { ⌜ length (now board) ≡ boardSize ⌝ }
     ensures { λ r. ⌜ ((b : Board) → Holds (now (board .entry)) b → wellFormed b ≡ true → r ≡ isListed b (m .id .0) (m .place)) ⌝ }
 {

@@ -18,7 +18,7 @@ ghost use Rattle.shards.specs.Rotations.{rotationOf};
 ghost use Rattle.parties.specs.Pairs.{shareParty, apart, fitsBefore};
 
 // Two rotations of one shard, and a machine that is a party of both.
-fn share_party(p: Rotation, q: Rotation) -> bool
+pub fn share_party(p: Rotation, q: Rotation) -> bool
     ensures { λ r. ⌜ r ≡ shareParty (rotationOf p) (rotationOf q) ⌝ }
 {
     let here = p.shard;
@@ -48,7 +48,7 @@ fn is_apart(board: &[u64], i: usize, p: Rotation) -> bool
     true
 }
 
-fn sits_on(board: &[u64], shard: ShardId, id: ValidatorId) -> bool
+pub fn sits_on(board: &[u64], shard: ShardId, id: ValidatorId) -> bool
     requires { ⌜ length (now board) ≡ boardSize ⌝ }
     ensures { λ r. ⌜ ((b : Board) → Holds (now (board .entry)) b → wellFormed b ≡ true → r ≡ says (isSeatedOn (shard .0)) b (id .0)) ⌝ }
 {

@@ -49,7 +49,7 @@ fn families_apart(board: &[u64]) -> bool
 }
 
 // The reshape at i has the committees, gaps and boundaries that its admission asks for.
-fn reshape_stands(board: &[u64], i: usize) -> bool
+pub fn reshape_stands(board: &[u64], i: usize) -> bool
     requires { ⌜ (length (now board) ≡ boardSize) × (i < mostReshapes) ⌝ }
     ensures { λ r. ⌜ ((b : Board) → Holds (now (board .entry)) b → wellFormed b ≡ true → i < length (b .reshapes) → r ≡ reshapeStands b (getD (b .reshapes) i noReshape)) ⌝ }
 {
