@@ -28,6 +28,7 @@ int main(void)
     failed += check(roster_tick(board, ROSTER_WORDS, results) == ROSTER_NOT_WELL_FORMED, "zeros hold no board");
     memcpy(board, settings, sizeof settings);
     failed += check(roster_well_formed(board, ROSTER_WORDS) == 1, "the settings do");
+    failed += check(roster_seat_check(board, ROSTER_WORDS) == 1, "and pass the seat check");
     failed += check(roster_tick(board, ROSTER_WORDS, results) == ROSTER_DONE && results[0] == 1 && results[1] == 0 && board[1] == 6,
                     "a tick");
     failed += check(roster_leave(board, ROSTER_WORDS, 7, NULL, 0, results) == ROSTER_NO_RECORD, "nobody can leave");

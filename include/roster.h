@@ -44,6 +44,9 @@ uint64_t roster_snapshot_most(void);
 /* 1 if the words hold a well-formed board, else 0. */
 uint64_t roster_well_formed(const uint64_t *board, size_t words);
 
+/* 1 if the words hold a board that passes the seat check, else 0. */
+uint64_t roster_seat_check(const uint64_t *board, size_t words);
+
 /* The board whose snapshot the bytes are, into lent words; words past the board stay. Answers 0, 11, 13. */
 uint64_t roster_read(const uint8_t *snapshot, size_t bytes, uint64_t *board, size_t words);
 

@@ -118,6 +118,12 @@ impl<W: AsRef<[u64]> + AsMut<[u64]>> Board<W> {
         exports::well_formed(self.words()) == 1
     }
 
+    /// Whether the words hold a board that passes the seat check.
+    #[must_use]
+    pub fn seat_check(&self) -> bool {
+        exports::seat_check(self.words()) == 1
+    }
+
     /// Takes the board of a snapshot in place of the one that stands.
     ///
     /// # Errors

@@ -12,6 +12,7 @@ unsafe extern "C" {
     safe fn roster_words() -> u64;
     safe fn roster_snapshot_most() -> u64;
     fn roster_well_formed(board: *const u64, words: usize) -> u64;
+    fn roster_seat_check(board: *const u64, words: usize) -> u64;
     fn roster_read(snapshot: *const u8, bytes: usize, board: *mut u64, words: usize) -> u64;
     fn roster_write(
         board: *const u64,
@@ -101,6 +102,13 @@ pub fn snapshot_most() -> u64 {
 pub fn well_formed(board: &[u64]) -> u64 {
     // SAFETY: the board is lent for the whole call, and only read.
     unsafe { roster_well_formed(board.as_ptr(), board.len()) }
+}
+
+/// 1 if the words hold a board that passes the seat check, else 0.
+#[must_use]
+pub fn seat_check(board: &[u64]) -> u64 {
+    // SAFETY: the board is lent for the whole call, and only read.
+    unsafe { roster_seat_check(board.as_ptr(), board.len()) }
 }
 
 /// The board whose snapshot the bytes are, into lent words; words past the board stay as they are.

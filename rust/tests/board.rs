@@ -81,7 +81,7 @@ fn a_split_from_its_admission_to_its_cut() {
     assert_eq!(board.schedule_splits(&[3, 2, 1]), done(1, 3));
     assert_eq!(board.tick(), done(1, 0));
     assert_eq!(board.cut_splits(), done(1, 0));
-    assert!(board.well_formed());
+    assert!(board.well_formed() && board.seat_check());
 }
 
 #[test]
@@ -118,6 +118,16 @@ fn a_snapshot_is_read_and_written_back() {
     assert_eq!(board.write(&mut room), Ok(bytes.len()));
     assert_eq!(room[bytes.len()..], [7, 7, 7]);
     assert_eq!(board.write(&mut room[1..bytes.len()]), Err(Answer::NoRoom));
+}
+
+/// The board is well-formed all the same.
+#[test]
+fn a_member_without_a_record_fails_the_seat_check() {
+    let mut words = ward().into_words();
+    assert_eq!(words[1_300], 11, "the first member");
+    words[1_300] = 99;
+    let board = Board::over(words);
+    assert!(board.well_formed() && !board.seat_check());
 }
 
 #[test]

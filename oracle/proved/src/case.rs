@@ -1,6 +1,6 @@
 //! One call to be compared, and what the oracle says of it.
 
-use board::read;
+use board::{passes, read};
 use calls::{Call, Made, Rng, bytes_of};
 use compare::{Witness, against_rust};
 use plain::{Outcome, Step};
@@ -33,7 +33,20 @@ pub struct Expected {
     pub left: Vec<u64>,
     /// The snapshot after, where a well-formed board stood before.
     pub snapshot: Option<Vec<u64>>,
+    /// Whether the board after passes the seat check.
+    pub seated: bool,
     pub witness: Witness,
+}
+
+impl Expected {
+    /// The words after that are the board's: a read may be lent more.
+    #[must_use]
+    pub fn board(&self) -> &[u64] {
+        match &self.snapshot {
+            Some(_) => &self.left[..WORDS],
+            None => &self.left,
+        }
+    }
 }
 
 impl Case {
@@ -99,6 +112,7 @@ impl Case {
             outcome,
             lent,
             left: unpack(&made.after).ok_or("no snapshot after")?,
+            seated: seated(&made.after),
             snapshot: Some(made.after),
         })
     }
@@ -117,10 +131,15 @@ impl Case {
             outcome,
             lent,
             left,
+            seated: seated(&self.before),
             snapshot: Some(self.before.clone()),
             witness: Witness::PlainAlone,
         }
     }
+}
+
+fn seated(snapshot: &[u64]) -> bool {
+    read(snapshot).is_some_and(|board| passes(&board))
 }
 
 fn refused(answer: u64, lent: Vec<u64>) -> Expected {
@@ -133,6 +152,7 @@ fn refused(answer: u64, lent: Vec<u64>) -> Expected {
         left: lent.clone(),
         lent,
         snapshot: None,
+        seated: false,
         witness: Witness::PlainAlone,
     }
 }

@@ -83,9 +83,13 @@ impl<S: Subject> Checker<S> {
             let said = self.subject.well_formed(&expected.lent);
             demand(said == held, || format!("the check before says {said}"))?;
         }
+        let left = expected.board();
+        let said = self.subject.seat_check(left);
+        let wanted = u64::from(expected.seated);
+        demand(said == wanted, || format!("the seat check says {said}"))?;
         match &expected.snapshot {
-            Some(words) => self.snapshot(&bytes_of(words), &expected)?,
-            None => self.unwritten(&expected.left, 1, 64)?,
+            Some(words) => self.snapshot(left, &bytes_of(words))?,
+            None => self.unwritten(left, 1, 64)?,
         }
         Ok(expected)
     }
@@ -147,8 +151,7 @@ impl<S: Subject> Checker<S> {
 
     /// The board after is well-formed, and its snapshot is written into as
     /// many bytes, more or too few, and read back.
-    fn snapshot(&mut self, bytes: &[u8], expected: &Expected) -> Result<(), String> {
-        let left = &expected.left[..expected.left.len().min(crate::WORDS)];
+    fn snapshot(&mut self, left: &[u64], bytes: &[u8]) -> Result<(), String> {
         let said = self.subject.well_formed(left);
         demand(said == 1, || format!("the check after says {said}"))?;
         self.written(left, bytes, 0)?;

@@ -22,6 +22,9 @@ pub struct Run<S> {
     damaged: u64,
     still_boards: u64,
     misnumbered: u64,
+    /// Boards after a call that pass the seat check, and that don't.
+    seated: u64,
+    unseated: u64,
     pub differences: u64,
     pub reports: Vec<String>,
 }
@@ -35,6 +38,8 @@ impl<S: Subject> Run<S> {
             damaged: 0,
             still_boards: 0,
             misnumbered: 0,
+            seated: 0,
+            unseated: 0,
             differences: 0,
             reports: Vec::new(),
         }
@@ -92,7 +97,10 @@ impl<S: Subject> Run<S> {
         self.tally
             .count(&case.before, case.call.step, expected.outcome);
         *self.witnesses.entry(expected.witness).or_default() += 1;
-        expected.snapshot.is_some()
+        let held = expected.snapshot.is_some();
+        self.seated += u64::from(expected.seated);
+        self.unseated += u64::from(held && !expected.seated);
+        held
     }
 
     fn compare(&mut self, case: &Case) -> Option<crate::Expected> {
@@ -120,6 +128,11 @@ impl<S> Display for Run<S> {
             self.damaged, self.still_boards
         )?;
         writeln!(f, "{:>8} more on a wrong number of words", self.misnumbered)?;
+        writeln!(
+            f,
+            "the seat check passes {} of the boards after, and {} not",
+            self.seated, self.unseated
+        )?;
         for report in &self.reports {
             writeln!(f, "DIFFERENT: {report}")?;
         }

@@ -23,6 +23,8 @@ pub trait Subject {
 
     fn well_formed(&mut self, board: &[u64]) -> u64;
 
+    fn seat_check(&mut self, board: &[u64]) -> u64;
+
     fn read(&mut self, snapshot: &mut Lent<u8>, board: &mut Lent<u64>) -> u64;
 
     fn write(&mut self, board: &[u64], snapshot: &mut Lent<u8>, length: &mut Lent<u64>) -> u64;
@@ -87,6 +89,10 @@ impl Subject for Library {
 
     fn well_formed(&mut self, board: &[u64]) -> u64 {
         exports::well_formed(board)
+    }
+
+    fn seat_check(&mut self, board: &[u64]) -> u64 {
+        exports::seat_check(board)
     }
 
     fn read(&mut self, snapshot: &mut Lent<u8>, board: &mut Lent<u64>) -> u64 {

@@ -25,8 +25,9 @@ enum Fault {
     RefusalWrites,
     /// Another board every second time.
     TwiceDiffers,
-    /// The check that says yes.
+    /// The check, and the seat check, that say yes.
     AlwaysFormed,
+    AlwaysSeated,
     /// A byte of the snapshot, one past it, its length.
     Byte,
     PastSnapshot,
@@ -35,7 +36,7 @@ enum Fault {
     ReadWord,
 }
 
-const FAULTS: [Fault; 16] = [
+const FAULTS: [Fault; 17] = [
     Fault::Word,
     Fault::Room,
     Fault::Answer,
@@ -48,6 +49,7 @@ const FAULTS: [Fault; 16] = [
     Fault::RefusalWrites,
     Fault::TwiceDiffers,
     Fault::AlwaysFormed,
+    Fault::AlwaysSeated,
     Fault::Byte,
     Fault::PastSnapshot,
     Fault::Length,
@@ -110,6 +112,13 @@ impl Subject for Faulty {
             return 1;
         }
         Library.well_formed(board)
+    }
+
+    fn seat_check(&mut self, board: &[u64]) -> u64 {
+        if self.has(Fault::AlwaysSeated) {
+            return 1;
+        }
+        Library.seat_check(board)
     }
 
     fn read(&mut self, snapshot: &mut Lent<u8>, board: &mut Lent<u64>) -> u64 {
