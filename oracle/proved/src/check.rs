@@ -74,6 +74,7 @@ impl<S: Subject> Checker<S> {
     /// What differs first, in words.
     pub fn check(&mut self, case: &Case) -> Result<Expected, String> {
         let expected = case.expected()?;
+        self.take_back();
         if case.call.step == Step::Read {
             self.read(&case.snapshot(), &expected)?;
         } else {
@@ -92,6 +93,14 @@ impl<S: Subject> Checker<S> {
             None => self.unwritten(left, 1, 64)?,
         }
         Ok(expected)
+    }
+
+    /// Nothing is lent, and every guard stands again.
+    fn take_back(&mut self) {
+        for words in [&mut self.board, &mut self.draws, &mut self.results] {
+            words.lend(&[]);
+        }
+        self.snapshot.lend(&[]);
     }
 
     fn guarded(&self, what: &str) -> Result<(), String> {

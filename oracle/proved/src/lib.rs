@@ -15,4 +15,4 @@ pub use layout::{WORDS, pack, unpack};
 pub use lent::Lent;
 pub use run::Run;
 pub use shrink::{reproduction, smallest};
-pub use subject::{Library, Loan, Subject};
+pub use subject::{Library, Loan, Subject, export};

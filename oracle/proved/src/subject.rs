@@ -35,28 +35,9 @@ pub struct Library;
 
 impl Subject for Library {
     fn step(&mut self, call: &Call, loan: &mut Loan) -> u64 {
-        let board = loan.board.inner_mut();
-        let draws = loan.draws.inner();
-        let results = two(loan.results);
-        let (shard, machine, side) = (call.args.shard, call.args.machine, call.args.side);
-        match call.step {
-            Step::Tick => exports::tick(board, results),
-            Step::AdmitSplit => exports::admit_split(board, shard, results),
-            Step::AdmitMerge => exports::admit_merge(board, shard, draws, results),
-            Step::MarkReady => exports::mark_seat_ready(board, shard, machine, results),
-            Step::MarkQuiet => exports::mark_quiet(board, shard, side, results),
-            Step::DrawCohort => exports::draw_cohort(board, shard, draws, results),
-            Step::Lapse => exports::lapse(board, shard, results),
-            Step::ScheduleSplits => exports::schedule_splits(board, draws, results),
-            Step::ScheduleMerges => exports::schedule_merges(board, results),
-            Step::CutSplits => exports::cut_splits(board, results),
-            Step::CutMerges => exports::cut_merges(board, results),
-            Step::Leave => exports::leave(board, machine, draws, results),
-            Step::Rotate => exports::rotate(board, shard, machine, draws, results),
-            Step::Resolve => exports::resolve(board, results),
-            Step::TimeOut => exports::time_out(board, results),
-            Step::Read => unreachable!("a read is no step on a board"),
-        }
+        let results = loan.results.inner_mut();
+        let results = results.try_into().expect("two words are lent");
+        export(call, loan.board.inner_mut(), loan.draws.inner(), results)
     }
 
     fn again(&mut self, call: &Call, board: &mut Board) -> Outcome {
@@ -78,7 +59,7 @@ impl Subject for Library {
             Step::Rotate => board.rotate(shard, machine, draws),
             Step::Resolve => board.resolve(),
             Step::TimeOut => board.time_out(),
-            Step::Read => unreachable!("a read is no step on a board"),
+            Step::Read => panic!("a read is no step on a board"),
         };
         Outcome {
             answer: told.answer.number(),
@@ -104,7 +85,29 @@ impl Subject for Library {
     }
 }
 
-fn two(results: &mut Lent<u64>) -> &mut [u64; 2] {
-    let words = results.inner_mut();
-    words.try_into().expect("two words are lent")
+/// The export of the call's step; its answer.
+///
+/// # Panics
+///
+/// Where the call is a read, which is no step on a board.
+pub fn export(call: &Call, board: &mut [u64], draws: &[u64], results: &mut [u64; 2]) -> u64 {
+    let (shard, machine, side) = (call.args.shard, call.args.machine, call.args.side);
+    match call.step {
+        Step::Tick => exports::tick(board, results),
+        Step::AdmitSplit => exports::admit_split(board, shard, results),
+        Step::AdmitMerge => exports::admit_merge(board, shard, draws, results),
+        Step::MarkReady => exports::mark_seat_ready(board, shard, machine, results),
+        Step::MarkQuiet => exports::mark_quiet(board, shard, side, results),
+        Step::DrawCohort => exports::draw_cohort(board, shard, draws, results),
+        Step::Lapse => exports::lapse(board, shard, results),
+        Step::ScheduleSplits => exports::schedule_splits(board, draws, results),
+        Step::ScheduleMerges => exports::schedule_merges(board, results),
+        Step::CutSplits => exports::cut_splits(board, results),
+        Step::CutMerges => exports::cut_merges(board, results),
+        Step::Leave => exports::leave(board, machine, draws, results),
+        Step::Rotate => exports::rotate(board, shard, machine, draws, results),
+        Step::Resolve => exports::resolve(board, results),
+        Step::TimeOut => exports::time_out(board, results),
+        Step::Read => panic!("a read is no step on a board"),
+    }
 }

@@ -180,6 +180,17 @@ fn differing(checker: &mut Checker<Faulty>) -> Case {
     }
 }
 
+/// A guard that was written over stands again for the next call.
+#[test]
+fn a_fault_leaves_no_trace() {
+    for fault in FAULTS {
+        let mut checker = Checker::new(Faulty(Some(fault)));
+        let case = differing(&mut checker);
+        checker.subject.0 = None;
+        assert!(checker.check(&case).is_ok(), "{fault:?}");
+    }
+}
+
 /// A leave needs one machine, and a cut of no merge needs nothing.
 #[test]
 fn a_difference_is_brought_down() {

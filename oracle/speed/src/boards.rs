@@ -135,7 +135,7 @@ fn after(board: &Board, step: Step, args: Args) -> Board {
 
 /// A split at the last shard, with its cohort all ready and quiet.
 fn staffed_split(board: &Board) -> (u64, Board) {
-    let target = *board.committees.keys().last().expect("a committee");
+    let target = split_target(board);
     let board = after(board, Step::AdmitSplit, at(target));
     let mut board = after(&board, Step::DrawCohort, at(target));
     make_ready(&mut board);
@@ -143,11 +143,15 @@ fn staffed_split(board: &Board) -> (u64, Board) {
 }
 
 /// A merge of the first two shards, with its keepers all ready and quiet.
-fn staffed_merge(board: &Board) -> (u64, Board) {
+fn staffed_merge(board: &Board) -> Board {
     let target = merge_target(board);
     let mut board = after(board, Step::AdmitMerge, at(target));
     make_ready(&mut board);
-    (target, board)
+    board
+}
+
+fn split_target(board: &Board) -> u64 {
+    *board.committees.keys().last().expect("a committee")
 }
 
 fn merge_target(board: &Board) -> u64 {
@@ -220,25 +224,13 @@ fn with_room(mut board: Board) -> Board {
 #[must_use]
 pub fn situation(shape: Shape, step: Step) -> Situation {
     let board = base(shape);
-    let first = *board.committees.keys().next().expect("a committee");
-    let member = board.committees[&first][1];
-    let on_first = Args {
-        machine: member,
-        ..at(first)
-    };
     let (board, args) = match step {
         Step::Tick => (board, Args::default()),
         Step::TimeOut => (waiting(board), Args::default()),
-        Step::Leave | Step::Rotate => (board, on_first),
+        Step::Leave | Step::Rotate => on_first(board),
         Step::Resolve => (rotating(&board), Args::default()),
-        Step::AdmitMerge => {
-            let target = merge_target(&board);
-            (board, at(target))
-        }
-        Step::AdmitSplit => {
-            let target = *board.committees.keys().last().expect("a committee");
-            (board, at(target))
-        }
+        Step::AdmitMerge => with_target(board, merge_target),
+        Step::AdmitSplit => with_target(board, split_target),
         Step::MarkReady | Step::MarkQuiet | Step::Lapse => split_call(&board),
         Step::DrawCohort => {
             let (target, board) = staffed_split(&board);
@@ -249,7 +241,7 @@ pub fn situation(shape: Shape, step: Step) -> Situation {
             (after(&board, step, Args::default()), Args::default())
         }
         Step::ScheduleMerges => {
-            let (_, board) = staffed_merge(&board);
+            let board = staffed_merge(&board);
             (after(&board, step, Args::default()), Args::default())
         }
         Step::CutSplits => {
@@ -257,12 +249,27 @@ pub fn situation(shape: Shape, step: Step) -> Situation {
             (due(&board, Step::ScheduleSplits), Args::default())
         }
         Step::CutMerges => {
-            let (_, board) = staffed_merge(&board);
+            let board = staffed_merge(&board);
             (due(&board, Step::ScheduleMerges), Args::default())
         }
         Step::Read => panic!("a read is no step"),
     };
     with_draws(board, step, args.of(step))
+}
+
+fn with_target(board: Board, target: fn(&Board) -> u64) -> (Board, Args) {
+    let target = target(&board);
+    (board, at(target))
+}
+
+/// A member of the first shard.
+fn on_first(board: Board) -> (Board, Args) {
+    let (shard, ids) = board.committees.iter().next().expect("a committee");
+    let args = Args {
+        machine: ids[1],
+        ..at(*shard)
+    };
+    (board, args)
 }
 
 fn split_call(board: &Board) -> (Board, Args) {

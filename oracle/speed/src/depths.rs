@@ -10,7 +10,7 @@ use plain::Step;
 use roster::exports;
 
 use crate::boards::{SHAPES, situation};
-use crate::proved::{Room, act, words};
+use crate::library::{Room, act, words};
 use crate::stack::Stack;
 use crate::tables::steps;
 

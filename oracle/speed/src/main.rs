@@ -5,8 +5,8 @@
 mod boards;
 mod clock;
 mod depths;
+mod library;
 mod maps;
-mod proved;
 mod snapshot;
 mod stack;
 mod tables;
@@ -15,8 +15,8 @@ use std::env;
 use std::hint::black_box;
 
 use boards::{SHAPES, base, situation, worst};
+use library::Room;
 use plain::Step;
-use proved::Room;
 
 fn main() {
     let args: Vec<String> = env::args().skip(1).collect();
@@ -44,11 +44,11 @@ fn spin(what: &str, shape: usize, turns: usize) {
 fn spin_step(code: &str, shape: usize, turns: usize) {
     let step = Step::from_code(number(code) as u64).expect("a step's code");
     let at = situation(SHAPES[shape], step);
-    let template = proved::words(&at.board);
+    let template = library::words(&at.board);
     let mut words = template.clone();
     for _ in 0..turns {
         words.copy_from_slice(&template);
-        black_box(proved::act(&mut words, &at.call));
+        black_box(library::act(&mut words, &at.call));
     }
 }
 

@@ -341,47 +341,44 @@ fn put_ids(out: &mut Vec<u8>, ids: &[ValidatorId]) {
     ids.iter().for_each(|id| put(out, &[id.0]));
 }
 
+fn put_seat(out: &mut Vec<u8>, id: ValidatorId, child: ShardId, ready: bool) {
+    put(out, &[id.0, child.0, u64::from(ready)]);
+}
+
 fn put_reshape(out: &mut Vec<u8>, reshape: &PendingReshape) {
+    let (kind, admitted) = match reshape {
+        PendingReshape::Split { admitted, .. } => (0, Some(*admitted)),
+        PendingReshape::Merge { admitted, .. } => (1, *admitted),
+    };
+    put(out, &[kind, admitted.map_or(0, |admitted| admitted.at.0)]);
+    put(
+        out,
+        &flagged(admitted.and_then(|admitted| admitted.drain_by)),
+    );
+    put(out, &flagged(reshape.scheduled_terminal()));
     match reshape {
         PendingReshape::Split {
             cohort,
-            admitted,
             quiet,
             scheduled,
             ..
         } => {
-            put(out, &[0, admitted.at.0]);
-            put(out, &flagged(admitted.drain_by));
-            put(out, &flagged(reshape.scheduled_terminal()));
             put(out, &[u64::from(*quiet), 0, cohort.len() as u64]);
-            for (id, seat) in cohort {
-                put(out, &[id.0, seat.child.0, u64::from(seat.ready)]);
-            }
+            let seats = cohort.iter();
+            seats.for_each(|(id, seat)| put_seat(out, *id, seat.child, seat.ready));
             match scheduled {
                 Some(split) => split.halves.values().for_each(|half| put_ids(out, half)),
                 None => put(out, &[0, 0]),
             }
         }
         PendingReshape::Merge {
-            keepers,
-            admitted,
-            halves,
-            ..
+            keepers, halves, ..
         } => {
-            let admitted = admitted.as_ref();
-            put(out, &[1, admitted.map_or(0, |admitted| admitted.at.0)]);
-            put(
-                out,
-                &flagged(admitted.and_then(|admitted| admitted.drain_by)),
-            );
-            put(out, &flagged(reshape.scheduled_terminal()));
-            halves
-                .values()
-                .for_each(|half| put(out, &[u64::from(half.quiet)]));
+            let quiet = halves.values().map(|half| u64::from(half.quiet));
+            quiet.for_each(|quiet| put(out, &[quiet]));
             put(out, &[keepers.len() as u64]);
-            for (id, seat) in keepers {
-                put(out, &[id.0, seat.child.0, u64::from(seat.ready)]);
-            }
+            let seats = keepers.iter();
+            seats.for_each(|(id, seat)| put_seat(out, *id, seat.child, seat.ready));
             put(out, &[0, 0]);
         }
     }

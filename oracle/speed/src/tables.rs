@@ -9,8 +9,8 @@ use roster::exports;
 
 use crate::boards::{SHAPES, Shape, Situation, base, growing, situation, worst};
 use crate::clock::{over, time};
-use crate::proved::Room;
-use crate::{maps, proved, snapshot};
+use crate::library::Room;
+use crate::{library, maps, snapshot};
 
 pub fn print() {
     for shape in SHAPES {
@@ -62,12 +62,12 @@ fn print_step(at: &Situation) {
 
 /// The step in place, less the check.
 fn in_place(at: &Situation) -> f64 {
-    let template = proved::words(&at.board);
+    let template = library::words(&at.board);
     over(
         &mut template.clone(),
         |words| words.copy_from_slice(&template),
         |words| {
-            black_box(proved::act(words, &at.call));
+            black_box(library::act(words, &at.call));
         },
         |words| {
             black_box(exports::well_formed(words));

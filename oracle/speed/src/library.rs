@@ -4,31 +4,12 @@ use std::hint::black_box;
 
 use board::{Board, write};
 use calls::{Call, bytes_of};
-use plain::Step;
+use proved::export;
 use roster::{SNAPSHOT_MOST, WORDS, exports};
 
 /// A step in place; its answer.
 pub fn act(words: &mut [u64], call: &Call) -> u64 {
-    let (shard, machine, side) = (call.args.shard, call.args.machine, call.args.side);
-    let (draws, results) = (&call.draws[..], &mut [0; 2]);
-    match call.step {
-        Step::Tick => exports::tick(words, results),
-        Step::AdmitSplit => exports::admit_split(words, shard, results),
-        Step::AdmitMerge => exports::admit_merge(words, shard, draws, results),
-        Step::MarkReady => exports::mark_seat_ready(words, shard, machine, results),
-        Step::MarkQuiet => exports::mark_quiet(words, shard, side, results),
-        Step::DrawCohort => exports::draw_cohort(words, shard, draws, results),
-        Step::Lapse => exports::lapse(words, shard, results),
-        Step::ScheduleSplits => exports::schedule_splits(words, draws, results),
-        Step::ScheduleMerges => exports::schedule_merges(words, results),
-        Step::CutSplits => exports::cut_splits(words, results),
-        Step::CutMerges => exports::cut_merges(words, results),
-        Step::Leave => exports::leave(words, machine, draws, results),
-        Step::Rotate => exports::rotate(words, shard, machine, draws, results),
-        Step::Resolve => exports::resolve(words, results),
-        Step::TimeOut => exports::time_out(words, results),
-        Step::Read => exports::well_formed(words),
-    }
+    export(call, words, &call.draws, &mut [0; 2])
 }
 
 /// The board in the library's words.
