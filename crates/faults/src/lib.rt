@@ -1,5 +1,5 @@
-// What the seat check finds: for each clause, the next row from a place on that breaks it.
-// Past the last row where none does. Which of a row's tests fails, occupancy, parties, carved and families tell.
+// For each clause of the seat check the next row, from a place on, that breaks it; the end of the rows where none does.
+// Which test of the row failed is asked of occupancy, parties, carved and families.
 use board::committees;
 use board::layout::MOST_MACHINES;
 use board::layout::MOST_MEMBERS;

@@ -1,4 +1,4 @@
-// What a reshape that is not scheduled waits for. Its ready seats drains counts, its drain and quiet reshapes::fields tells.
+// What a reshape that is not scheduled waits for. Ready seats are counted in drains; reshapes::fields tells whether it drains and is quiet.
 use board::committees;
 use board::layout::DRAIN_BY;
 use board::layout::MOST_COMMITTEES;
