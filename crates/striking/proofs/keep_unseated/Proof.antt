@@ -38,14 +38,13 @@ loop-holds c = (
 )
 
 add-k : tie.Need-add-k Inv-loop μ-loop
-add-k c = let one : c .bit .result ≤ 1 = rw (c .bit .ensures) (bit-most _) in omega arith
+add-k c = omega (arith, c .bit .ensures, bit-most (not (c .before .has-seat .result)))
 
 loop-again : tie.Need-loop-again Inv-loop μ-loop
 loop-again c =
     let a = c .before .before .before .before .before .before .before .before .before .before .loop in
-    let p = c .before .before .before .before .before .before .before .before .before .before .before .before .before .before .before .args in
-    let one : c .bit .result ≤ 1 = rw (c .bit .ensures) (bit-most _) in (
-      omega arith,
+    let p = c .before .before .before .before .before .before .before .before .before .before .before .before .before .before .before .args in (
+      omega (arith, c .bit .ensures, bit-most (not (c .before .has-seat .result))),
       omega arith,
       a .inv .2,
       c .before .before .before .before .before .put-member .kept .0 ∙ a .inv .3,
