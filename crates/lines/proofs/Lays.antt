@@ -1,5 +1,5 @@
 -- What is put one after another in a line.
-use Prim.Native.Nat.{ℕ, suc, _+_, _-_, _≤_, _<_}
+use Prim.Native.Nat.{ℕ, suc, _+_, _-_, _≤_, _<_, min}
 use mathlib.Core.Path.{_≡_, refl, ap, sym, _∙_}
 use mathlib.Core.Bool.{Bool, true, false}
 use mathlib.Core.List.{List, [], _∷_, _++_, append-assoc, append-nil}
@@ -88,3 +88,13 @@ module _ (s : List ℕ) (i : ℕ) {l m : List ℕ} {at a : ℕ} (p : Puts l at (
 
 pub blanks-turn : (n i : ℕ) {l m : List ℕ} {at a : ℕ} → Puts l at (take i (spaces n)) m a → i < n → a < length m → Puts l at (take (i + 1) (spaces n)) (set m a 32) (a + 1)
 blanks-turn n i p h g = rw (getD-replicate {A = ℕ} n i 32 0 h) at (puts-turn (spaces n) i p (omega (arith, length-replicate {A = ℕ} n 32)) g)
+
+-- what is laid is within the room
+pub take-within : (n : ℕ) (l : List ℕ) → take (min n (length l)) l ≡ take n l
+take-within n l = go (ltb n (length l)) refl
+  where
+    go : (c : Bool) → ltb n (length l) ≡ c → take (min n (length l)) l ≡ take n l
+    go true e = let h = ltb-true n (length l) e in let m : min n (length l) ≡ n = omega arith in rw m
+    go false e =
+        let h = ltb-false n (length l) e in
+        take-all (min n (length l)) l (omega arith) ∙ sym (take-all n l (omega arith))

@@ -1,2 +1,3 @@
 pub mod Lays
 pub mod Numerals
+pub mod Shown

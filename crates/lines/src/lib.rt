@@ -1,6 +1,7 @@
 // A line of bytes, laid from the left in lent room: what does not fit is cut.
 ghost use mathlib.Core.Path.{_≡_};
-ghost use Prim.Native.Nat.{_-_};
+ghost use Prim.Native.Nat.{_-_, min};
+ghost use lib.ListN.{take};
 ghost use Rattle.lines.specs.Says.{Puts};
 ghost use Rattle.lines.specs.Numeral.{spaces, numeral};
 
@@ -59,4 +60,21 @@ pub fn put_number(line: &mut [u8], at: usize, width: usize, n: u64) -> usize
     let k = io::decimal(n, &mut text);
     let a = put_blanks(line, at, less(width, k));
     put_text(line, a, &text[..k])
+}
+
+fn least(a: usize, b: usize) -> usize
+    ensures { λ r. ⌜ r ≡ min a b ⌝ }
+{
+    if a < b {
+        return a;
+    }
+    b
+}
+
+// What is laid so far.
+pub fn said(line: &[u8], at: usize) -> &[u8]
+    ensures { λ r. ⌜ now r ≡ take at (now (line .entry)) ⌝ }
+{
+    let e = least(at, line.len());
+    &line[..e]
 }

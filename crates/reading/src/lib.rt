@@ -54,7 +54,7 @@ fn rises_to(pairs: bool, t: &[u64], bytes: &[u8], at: usize) -> bool
 }
 
 // Where the good row at a place ends, below the next row unless it is the last; 0 where there is none.
-fn row_end(k: RowKind, last: bool, bytes: &[u8], at: usize, out: &mut [u64]) -> usize
+pub fn row_end(k: RowKind, last: bool, bytes: &[u8], at: usize, out: &mut [u64]) -> usize
     requires { ⌜ (length (now bytes) % 8 ≡ 0) × (length (now out) ≡ widthOf k) ⌝ }
     ensures { λ r. ⌜ ((ws : List ℕ) → AsWords (now (bytes .entry)) ws → TellsRow k last ws at r) ⌝ }
 {
