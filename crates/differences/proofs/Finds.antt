@@ -11,7 +11,7 @@ use Rattle.rules.specs.Lists.{_and_, _or_, every, any, equal}
 use Rattle.rules.specs.WellFormed.{rising}
 use Rattle.rules.proofs.Tests.{and-parts, and-joins, every-parts, every-join, every-none, equal-true}
 use Rattle.tables.specs.Rows.{Row}
-use Rattle.wellformed.specs.Check.{at, allPass, anyPass, rises}
+use Rattle.word_tests.specs.Tests.{at, allPass, anyPass, rises}
 use Rattle.differences.specs.declared.Difference.{Difference}
 use Rattle.differences.specs.declared.Difference.the-variants.{Gone, New, Changed, Same}
 use Rattle.differences.specs.Differ.{from, differ}

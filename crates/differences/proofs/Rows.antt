@@ -13,8 +13,8 @@ use Rattle.rules.specs.Lists.{_and_, equal}
 use Rattle.rules.proofs.Tests.{equal-true}
 use Rattle.tables.specs.Rows.{table, Row, wordsIn}
 use Rattle.tables.proofs.Tables.{table-length, counted, row-spot, scaled, no-row}
-use Rattle.tables.proofs.Parts.{spot-read}
-use Rattle.wellformed.specs.Check.{rises}
+use Rattle.shifts.proofs.Parts.{spot-read}
+use Rattle.word_tests.specs.Tests.{rises}
 use Rattle.differences.specs.declared.Difference.the-variants.{Gone, New, Changed, Same}
 use Rattle.differences.specs.Differ.{TableOf, from, differ}
 

@@ -6,7 +6,7 @@ use mathlib.Core.List.{List, [], _∷_, map}
 use lib.ListN.{length, drop}
 use Rattle.rules.specs.Lists.{equal}
 use Rattle.tables.specs.Rows.{table, Row, wordsIn}
-use Rattle.wellformed.specs.Check.{rises}
+use Rattle.word_tests.specs.Tests.{rises}
 use Rattle.differences.specs.declared.Difference.{Difference}
 use Rattle.differences.specs.declared.Difference.the-variants.{Gone, New, Changed, Same}
 

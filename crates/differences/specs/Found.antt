@@ -6,7 +6,7 @@ use mathlib.Core.List.{List, _∷_, _++_}
 use lib.Dec.{eqb}
 use lib.ListN.{length}
 use Rattle.rules.specs.Lists.{_and_, _or_, any, equal}
-use Rattle.wellformed.specs.Check.{at}
+use Rattle.word_tests.specs.Tests.{at}
 use Rattle.differences.specs.declared.Difference.{Difference}
 use Rattle.differences.specs.declared.Difference.the-variants.{Gone, New, Changed, Same}
 

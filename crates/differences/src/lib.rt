@@ -1,5 +1,5 @@
 // Two tables walked together by key: what stands in one alone, or in both with other words.
-use wellformed::rises;
+use word_tests::rises;
 ghost use mathlib.Core.Path.{_≡_};
 ghost use mathlib.Core.List.{List};
 ghost use Prim.Native.Nat.{ℕ, _+_, _*_, _<_, _≤_};

@@ -11,8 +11,9 @@ use lib.Seq.{drop-cons}
 use Rattle.rules.specs.Lists.{_and_, every}
 use Rattle.rules.specs.Board.{lastEpoch}
 use Rattle.rules.specs.WellFormed.{within}
-use Rattle.wellformed.specs.Check.{allPass, numbersOk, settingsOk}
-use Rattle.wellformed.proofs.Decides.{Words}
+use Rattle.word_tests.specs.Tests.{allPass}
+use Rattle.wellformed.specs.Check.{numbersOk, settingsOk}
+use Rattle.word_tests.proofs.Decides.{Words}
 use Rattle.reading.specs.Stream.{TellsHead}
 use Rattle.reading.proofs.Boards.{head-none, head-told}
 use Rattle.stops.specs.declared.Reading.the-variants.{Ended, Stopped}

@@ -19,9 +19,10 @@ use Rattle.rules.specs.Snapshot.{rowsWords, section, flagOf, valueOf, settingsW
 use Rattle.rules.proofs.Tests.{and-parts, and-joins, or-cases, or-left, or-right, equal-refl, equal-true}
 use Rattle.rules.proofs.SnapshotEncodes.{ids-encode}
 use Rattle.rules.proofs.SnapshotRows.{board-encodes}
-use Rattle.wellformed.specs.declared.RowKind.{RowKind}
-use Rattle.wellformed.specs.declared.RowKind.the-variants.{Machines, Committees, Boundaries, Rotations, Reshapes}
-use Rattle.wellformed.specs.Check.{rises, inPairs}
+use Rattle.row_tests.specs.declared.RowKind.{RowKind}
+use Rattle.row_tests.specs.declared.RowKind.the-variants.{Machines, Committees, Boundaries, Rotations, Reshapes}
+use Rattle.word_tests.specs.Tests.{rises}
+use Rattle.row_tests.specs.Rows.{inPairs}
 use Rattle.unpacking.specs.Unpacked.{RowOf, fullRow, snapRow}
 use Rattle.reading.specs.Stream.{goodOf, RowAt, TellsRow}
 use Rattle.stops.specs.Stop.{rowAt, rowGood, rowEnd}

@@ -8,7 +8,7 @@ use borrow.Author.Tests.{ltb-true, ltb-false, leb-true, leb-false, eqb-true, eqb
 use lib.Dec.{eqb, leb, ltb}
 use lib.ListN.{length, getD}
 use Rattle.rules.specs.Lists.{_and_}
-use Rattle.wellformed.specs.declared.RowKind.{RowKind}
+use Rattle.row_tests.specs.declared.RowKind.{RowKind}
 use Rattle.reading.specs.Stream.{TellsSection}
 use Rattle.reading.proofs.Streams.{Left, counted, start, section-none, section-over, section-fails, section-more}
 use Rattle.stops.specs.declared.Reading.{Reading}

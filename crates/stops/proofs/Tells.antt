@@ -12,8 +12,8 @@ use Rattle.rules.specs.Board.{mostMachines, mostCommittees, mostBounds, mostRot
 use Rattle.rules.specs.Lists.{_and_, _or_, equal}
 use Rattle.rules.specs.WellFormed.{goodPlace, goodMachine}
 use Rattle.rules.specs.Snapshot.{placeWords, machineWords, word, placeOf, readMachine, readWords}
-use Rattle.wellformed.specs.declared.RowKind.the-variants.{Machines, Committees, Boundaries, Rotations, Reshapes}
-use Rattle.wellformed.specs.Check.{allPass, anyPass}
+use Rattle.row_tests.specs.declared.RowKind.the-variants.{Machines, Committees, Boundaries, Rotations, Reshapes}
+use Rattle.word_tests.specs.Tests.{allPass, anyPass}
 use Rattle.unpacking.specs.AsWords.{AsWords}
 use Rattle.reading.specs.Told.{TellsSnapshot}
 use Rattle.reading.proofs.Bytes.{bytes-as}

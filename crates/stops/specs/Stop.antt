@@ -8,9 +8,10 @@ use Rattle.rules.specs.Lists.{_and_, _or_, equal}
 use Rattle.rules.specs.Board.{lastEpoch, mostMachines, mostCommittees, mostBounds, mostRotations, mostReshapes}
 use Rattle.rules.specs.WellFormed.{within}
 use Rattle.rules.specs.Snapshot.{Reader, readMachine, readCommittee, readBoundary, readRotation, readReshape, readWords}
-use Rattle.wellformed.specs.declared.RowKind.{RowKind}
-use Rattle.wellformed.specs.declared.RowKind.the-variants.{Machines, Committees, Boundaries, Rotations, Reshapes}
-use Rattle.wellformed.specs.Check.{rises, inPairs}
+use Rattle.row_tests.specs.declared.RowKind.{RowKind}
+use Rattle.row_tests.specs.declared.RowKind.the-variants.{Machines, Committees, Boundaries, Rotations, Reshapes}
+use Rattle.word_tests.specs.Tests.{rises}
+use Rattle.row_tests.specs.Rows.{inPairs}
 use Rattle.unpacking.specs.Unpacked.{RowOf, fullRow, snapRow}
 use Rattle.reading.specs.Stream.{goodOf}
 use Rattle.stops.specs.declared.Reading.{Reading}

@@ -9,7 +9,7 @@ use board::layout::SETTINGS_END;
 use reading::row_end;
 use unpacking::width;
 use unpacking::word;
-use wellformed::RowKind;
+use row_tests::RowKind;
 ghost use mathlib.Core.Path.{_≡_};
 ghost use mathlib.Core.List.{List};
 ghost use mathlib.Core.Bool.{true};
