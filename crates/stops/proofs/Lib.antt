@@ -1,4 +1,0 @@
-pub mod Rows
-pub mod Sections
-pub mod Heads
-pub mod Tells
