@@ -153,12 +153,12 @@ module _ (b : Board) (ok : wellFormed b ≡ true) (t : Shard) where
     one-row = rw (one-beside .reshapes) l
 
     -- as the code read them: the other child's members, after the first child's are pooled
-    pub both-held : (after : List ℕ) → Holds after (forAll (pooledUnless (reshapeIn i one .seats)) (membersOf (rightOf t) one) one) → Holds after both
+    pub both-held : (child : Shard) → child ≡ rightOf t → (after : List ℕ) → Holds after (forAll (pooledUnless (reshapeIn i one .seats)) (membersOf child one) one) → Holds after both
     unfolding membersOf
-    both-held after h =
+    both-held child is after h =
         let seats : reshapeIn i one .seats ≡ r .seats = ap (λ (z : Table Reshape). getD z i noReshape .val .seats) (one-beside .reshapes) in
         let members : membersOf (rightOf t) one ≡ membersOf (rightOf t) b = rw (membersOf, one-beside .committees) in
-        held-as after _ _ (ap (λ (z : Table Seat). forAll (pooledUnless z) (membersOf (rightOf t) one) one) seats ∙ ap (λ (z : List Id). forAll (pooledUnless (r .seats)) z one) members) h
+        held-as after _ _ (ap (λ (z : Shard). forAll (pooledUnless (reshapeIn i one .seats)) (membersOf z one) one) is ∙ ap (λ (z : Table Seat). forAll (pooledUnless z) (membersOf (rightOf t) one) one) seats ∙ ap (λ (z : List Id). forAll (pooledUnless (r .seats)) z one) members) h
 
     -- ---- the board of the cut
 

@@ -47,8 +47,10 @@ fn cut_at(board: &mut [u64], i: usize, target: ShardId, height: BlockHeight)
         isWord (height .0) ≡ true → fits (recast merge (target .0) (height .0) b) ≡ true →
         Holds (now (board .exit)) (cutBoard (target .0) (reshapeIn i b) (height .0) b)) ⌝ }
 {
-    others::pool_others(board, i, target.left());
-    others::pool_others(board, i, target.right());
+    let left = target.left();
+    let right = target.right();
+    others::pool_others(board, i, left);
+    others::pool_others(board, i, right);
     recasting::merge_family(board, target, height);
     keepers::rejoin_all(board, i, target);
     fields::close(board, i);

@@ -10,8 +10,8 @@ returns c = λ b h ok l e w f.
     let t = a .target .0 in
     let k = a .height .0 in
     let tg = fit b ok t (a .i) l e .target in
-    let h1 = rw (c .before .before .before .before .before .before .before .before .before .before .before .before .before .before .before .before .before .before .before .before .left .ensures) at (c .before .before .before .before .before .before .before .before .before .before .before .before .before .before .before .before .before .before .before .pool-others .ensures b h ok l) in
-    let h2 = both-held b ok t (a .i) l e _ (rw (c .before .before .before .before .before .before .before .before .before .before .before .before .before .before .before .right .ensures) at (c .before .before .before .before .before .before .before .before .before .before .before .before .before .before .pool-others2 .ensures _ h1 (of-good (one-beside b ok t (a .i) l e .good)) (one-row b ok t (a .i) l e))) in
+    let h1 = rw (c .before .before .before .before .before .before .before .before .before .before .before .before .before .before .before .before .before .before .before .before .before .left .ensures) at (c .before .before .before .before .before .before .before .before .before .before .before .before .before .before .before .before .before .before .pool-others .ensures b h ok l) in
+    let h2 = both-held b ok t (a .i) l e _ (c .before .before .before .before .before .before .before .before .before .before .before .before .before .before .before .before .before .before .before .before .right .ensures) _ (c .before .before .before .before .before .before .before .before .before .before .before .before .before .before .pool-others2 .ensures _ h1 (of-good (one-beside b ok t (a .i) l e .good)) (one-row b ok t (a .i) l e)) in
     let h3 = c .before .before .before .before .before .before .before .before .before .before .merge-family .ensures _ h2 (of-good (both-beside b ok t (a .i) l e .good)) tg w (both-fits b ok t (a .i) l e k w f) in
     let h4 = all-held b ok t (a .i) l e k w f _ (c .before .before .before .before .before .before .rejoin-all .ensures _ h3 (of-good (founded-good b ok t (a .i) l e k w f)) (founded-row b ok t (a .i) l e k w f) tg (parent-empty b ok t (a .i) l e k w f)) in
     row-closed b ok t (a .i) l e k w f _ (c .before .before .close .ensures _ h4 (all-row b ok t (a .i) l e k w f))
