@@ -1,7 +1,10 @@
 // The door of the library: functions of numbers and slices, for C and Rust to call.
+use types::Outcome;
 use types::ShardId;
 use types::ValidatorId;
 ghost use mathlib.Core.Path.{_≡_};
+ghost use mathlib.Core.List.{[], _∷_};
+ghost use Rattle.types.specs.Answers.{numberOf};
 ghost use Rattle.board.specs.Layout.{boardSize};
 ghost use Rattle.board.specs.Permitted.{WellHeld};
 ghost use Rattle.rules.specs.Places.{tick, leave, rotate, resolve, timeOut};
@@ -67,14 +70,21 @@ pub extern "C" fn roster_write(board: &[u64], snapshot: &mut [u8], length: &mut 
     answer.number()
 }
 
+// What a step told, in numbers.
+fn tell(told: Outcome, results: &mut [u64; 2]) -> u64
+    ensures { λ r. ⌜ (r ≡ numberOf (told .answer)) × (now (results .exit) ≡ told .handled ∷ told .«draws_used» ∷ []) ⌝ }
+{
+    *results = [told.handled, told.draws_used];
+    let answer = told.answer;
+    answer.number()
+}
+
 #[no_mangle]
 pub extern "C" fn roster_tick(board: &mut [u64], results: &mut [u64; 2]) -> u64
     ensures { λ r. ⌜ ExportedStep tick (now (board .entry)) (now (board .exit)) r (now (results .exit)) ⌝ }
 {
     let told = lifecycle::tick(board);
-    *results = [told.handled, told.draws_used];
-    let answer = told.answer;
-    answer.number()
+    tell(told, results)
 }
 
 #[no_mangle]
@@ -82,9 +92,7 @@ pub extern "C" fn roster_time_out(board: &mut [u64], results: &mut [u64; 2]) -> 
     ensures { λ r. ⌜ ExportedStep timeOut (now (board .entry)) (now (board .exit)) r (now (results .exit)) ⌝ }
 {
     let told = lifecycle::auto_ready_timeout(board);
-    *results = [told.handled, told.draws_used];
-    let answer = told.answer;
-    answer.number()
+    tell(told, results)
 }
 
 #[no_mangle]
@@ -97,9 +105,7 @@ pub extern "C" fn roster_mark_seat_ready(
     ensures { λ r. ⌜ ExportedStep (markSeatReady target machine) (now (board .entry)) (now (board .exit)) r (now (results .exit)) ⌝ }
 {
     let told = marks::mark_seat_ready(board, ShardId(target), ValidatorId(machine));
-    *results = [told.handled, told.draws_used];
-    let answer = told.answer;
-    answer.number()
+    tell(told, results)
 }
 
 #[no_mangle]
@@ -112,9 +118,7 @@ pub extern "C" fn roster_mark_quiet(
     ensures { λ r. ⌜ ExportedStep (markQuiet target side) (now (board .entry)) (now (board .exit)) r (now (results .exit)) ⌝ }
 {
     let told = marks::mark_quiet(board, ShardId(target), side);
-    *results = [told.handled, told.draws_used];
-    let answer = told.answer;
-    answer.number()
+    tell(told, results)
 }
 
 #[no_mangle]
@@ -127,9 +131,7 @@ pub extern "C" fn roster_leave(
     ensures { λ r. ⌜ ExportedStep (leave machine (now (draws .entry))) (now (board .entry)) (now (board .exit)) r (now (results .exit)) ⌝ }
 {
     let told = withdrawals::deactivate_to_insufficient_stake(board, ValidatorId(machine), draws);
-    *results = [told.handled, told.draws_used];
-    let answer = told.answer;
-    answer.number()
+    tell(told, results)
 }
 
 #[no_mangle]
@@ -148,9 +150,7 @@ pub extern "C" fn roster_rotate(
         ValidatorId(machine),
         draws,
     );
-    *results = [told.handled, told.draws_used];
-    let answer = told.answer;
-    answer.number()
+    tell(told, results)
 }
 
 #[no_mangle]
@@ -158,9 +158,7 @@ pub extern "C" fn roster_resolve(board: &mut [u64], results: &mut [u64; 2]) -> u
     ensures { λ r. ⌜ ExportedStep resolve (now (board .entry)) (now (board .exit)) r (now (results .exit)) ⌝ }
 {
     let told = resolving::resolve_pending_rotations(board);
-    *results = [told.handled, told.draws_used];
-    let answer = told.answer;
-    answer.number()
+    tell(told, results)
 }
 
 #[no_mangle]
@@ -168,9 +166,7 @@ pub extern "C" fn roster_admit_split(board: &mut [u64], target: u64, results: &m
     ensures { λ r. ⌜ ExportedStep (admitSplit target) (now (board .entry)) (now (board .exit)) r (now (results .exit)) ⌝ }
 {
     let told = admissions::admit_split(board, ShardId(target));
-    *results = [told.handled, told.draws_used];
-    let answer = told.answer;
-    answer.number()
+    tell(told, results)
 }
 
 #[no_mangle]
@@ -183,9 +179,7 @@ pub extern "C" fn roster_admit_merge(
     ensures { λ r. ⌜ ExportedStep (admitMerge target (now (draws .entry))) (now (board .entry)) (now (board .exit)) r (now (results .exit)) ⌝ }
 {
     let told = admissions::admit_merge(board, ShardId(target), draws);
-    *results = [told.handled, told.draws_used];
-    let answer = told.answer;
-    answer.number()
+    tell(told, results)
 }
 
 #[no_mangle]
@@ -198,9 +192,7 @@ pub extern "C" fn roster_draw_cohort(
     ensures { λ r. ⌜ ExportedStep (drawCohort target (now (draws .entry))) (now (board .entry)) (now (board .exit)) r (now (results .exit)) ⌝ }
 {
     let told = cohorts::draw::draw_split_cohort(board, ShardId(target), draws);
-    *results = [told.handled, told.draws_used];
-    let answer = told.answer;
-    answer.number()
+    tell(told, results)
 }
 
 #[no_mangle]
@@ -208,9 +200,7 @@ pub extern "C" fn roster_lapse(board: &mut [u64], target: u64, results: &mut [u6
     ensures { λ r. ⌜ ExportedStep (lapse target) (now (board .entry)) (now (board .exit)) r (now (results .exit)) ⌝ }
 {
     let told = lapses::lapse_split(board, ShardId(target));
-    *results = [told.handled, told.draws_used];
-    let answer = told.answer;
-    answer.number()
+    tell(told, results)
 }
 
 #[no_mangle]
@@ -222,9 +212,7 @@ pub extern "C" fn roster_schedule_splits(
     ensures { λ r. ⌜ ExportedStep (scheduleSplits (now (draws .entry))) (now (board .entry)) (now (board .exit)) r (now (results .exit)) ⌝ }
 {
     let told = schedule_splits::schedule_ready_splits(board, draws);
-    *results = [told.handled, told.draws_used];
-    let answer = told.answer;
-    answer.number()
+    tell(told, results)
 }
 
 #[no_mangle]
@@ -232,9 +220,7 @@ pub extern "C" fn roster_schedule_merges(board: &mut [u64], results: &mut [u64; 
     ensures { λ r. ⌜ ExportedStep scheduleMerges (now (board .entry)) (now (board .exit)) r (now (results .exit)) ⌝ }
 {
     let told = schedule_merges::schedule_ready_merges(board);
-    *results = [told.handled, told.draws_used];
-    let answer = told.answer;
-    answer.number()
+    tell(told, results)
 }
 
 #[no_mangle]
@@ -242,9 +228,7 @@ pub extern "C" fn roster_cut_splits(board: &mut [u64], results: &mut [u64; 2]) -
     ensures { λ r. ⌜ ExportedStep cutSplits (now (board .entry)) (now (board .exit)) r (now (results .exit)) ⌝ }
 {
     let told = cut_splits::apply_scheduled_splits(board);
-    *results = [told.handled, told.draws_used];
-    let answer = told.answer;
-    answer.number()
+    tell(told, results)
 }
 
 #[no_mangle]
@@ -252,7 +236,5 @@ pub extern "C" fn roster_cut_merges(board: &mut [u64], results: &mut [u64; 2]) -
     ensures { λ r. ⌜ ExportedStep cutMerges (now (board .entry)) (now (board .exit)) r (now (results .exit)) ⌝ }
 {
     let told = cut_merges::apply_scheduled_merges(board);
-    *results = [told.handled, told.draws_used];
-    let answer = told.answer;
-    answer.number()
+    tell(told, results)
 }
