@@ -13,8 +13,8 @@ returns c = pass-odd (c .before .before .args .bytes .now) (λ z. omega arith)
 
 returns-2 : tie.Need-returns-2
 returns-2 c = let h = bytes-as (c .before .before .before .before .before .before .before .before .args .bytes .now) (omega arith) (λ i. omega (arith, c .before .before .before .before .before .before .before .shared-slice-known .given i)) in
-    pass-tells (c .before .before .before .before .before .before .before .before .args .bytes .now) _ h _ _ _ _ _ (c .before .before .before .before .before .section-end .ensures _ h) (c .before .before .before .before .section-end2 .ensures _ h) (c .before .before .before .section-end3 .ensures _ h) (c .before .before .section-end4 .ensures _ h) (c .before .section-end5 .ensures _ h) _ _ (c .head-ok .ensures _ h)
-    (ap (eqb (c .before .section-end5 .result)) (omega (arith, total h)))
+    pass-tells (c .before .before .before .before .before .before .before .before .args .bytes .now) _ h _ _ _ _ _ (c .before .before .before .before .before .machines-end .ensures _ h) (c .before .before .before .before .section-end .ensures _ h) (c .before .before .before .section-end2 .ensures _ h) (c .before .before .section-end3 .ensures _ h) (c .before .section-end4 .ensures _ h) _ _ (c .head-ok .ensures _ h)
+    (ap (eqb (c .before .section-end4 .result)) (omega (arith, total h)))
 
 pub is-snapshot-spec : {M : Type 1} → statement M
 is-snapshot-spec =
