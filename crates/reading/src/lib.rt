@@ -31,7 +31,7 @@ ghost use lib.ListN.{length, getD, drop};
 ghost use Rattle.word_tests.specs.Tests.{at, idsOk, rises};
 ghost use Rattle.rules.specs.Board.{mostMachines, mostMembers};
 ghost use Rattle.rules.specs.WellFormed.{isShard};
-ghost use Rattle.board.specs.Layout.{machineWidth, committeeWidth};
+ghost use Rattle.board.specs.Layout.{machineWidth, committeeWidth, reshapeWidth};
 ghost use Rattle.row_tests.specs.Rows.{caseOk, machineOk, inPairs, widthOf};
 ghost use Rattle.snapshot.specs.ReadAs.{ReadAs};
 ghost use Rattle.unpacking.specs.AsWords.{AsWords};
@@ -240,9 +240,9 @@ fn machines_end(bytes: &[u8], at: usize) -> usize
 
 // ---- Sections
 
-// Where the good section at a place ends; 0 where there is none.
-fn section_end(k: RowKind, cap: usize, bytes: &[u8], at: usize) -> usize
-    requires { ⌜ length (now bytes) % 8 ≡ 0 ⌝ }
+// Where the good section at a place ends; 0 where there is none. `row` is scratch for its rows.
+fn section_end(k: RowKind, cap: usize, bytes: &[u8], at: usize, row: &mut [u64]) -> usize
+    requires { ⌜ (length (now bytes) % 8 ≡ 0) × (length (now row) ≡ reshapeWidth) ⌝ }
     ensures { λ r. ⌜ ((ws : List ℕ) → AsWords (now (bytes .entry)) ws → TellsSection k cap ws at r) ⌝ }
 {
     if at == 0 {
@@ -256,7 +256,6 @@ fn section_end(k: RowKind, cap: usize, bytes: &[u8], at: usize) -> usize
         return 0;
     }
     let w = width(k);
-    let mut row: [u64; RESHAPE_WIDTH] = [0; RESHAPE_WIDTH];
     let mut a = at + 1;
     while 0 < n {
         a = row_end(k, n == 1, bytes, a, &mut row[..w]);
@@ -289,11 +288,12 @@ pub fn is_snapshot(bytes: &[u8]) -> bool
     if bytes.len() % 8 != 0 {
         return false;
     }
+    let mut row: [u64; RESHAPE_WIDTH] = [0; RESHAPE_WIDTH];
     let m = machines_end(bytes, SETTINGS_END);
-    let c = section_end(RowKind::Committees, MOST_COMMITTEES, bytes, m);
-    let b = section_end(RowKind::Boundaries, MOST_BOUNDS, bytes, c);
-    let o = section_end(RowKind::Rotations, MOST_ROTATIONS, bytes, b);
-    let r = section_end(RowKind::Reshapes, MOST_RESHAPES, bytes, o);
+    let c = section_end(RowKind::Committees, MOST_COMMITTEES, bytes, m, &mut row);
+    let b = section_end(RowKind::Boundaries, MOST_BOUNDS, bytes, c, &mut row);
+    let o = section_end(RowKind::Rotations, MOST_ROTATIONS, bytes, b, &mut row);
+    let r = section_end(RowKind::Reshapes, MOST_RESHAPES, bytes, o, &mut row);
     head_ok(bytes) & (r == bytes.len() / 8)
 }
 
