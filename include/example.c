@@ -10,6 +10,7 @@
 static uint64_t board[ROSTER_WORDS];
 static uint64_t again[ROSTER_WORDS];
 static uint8_t snapshot[ROSTER_SNAPSHOT_MOST];
+static uint8_t next[ROSTER_SNAPSHOT_MOST];
 
 static int check(int holds, const char *what)
 {
@@ -21,7 +22,7 @@ int main(void)
 {
     /* six settings: epoch 5, S 4, D 2, W 3, interval 10, in flight 2 */
     static const uint64_t settings[7] = {6, 5, 4, 2, 3, 10, 2};
-    uint64_t results[2], length = 0;
+    uint64_t results[2], told[3], length = 0;
     int failed = 0;
 
     failed += check(roster_words() == ROSTER_WORDS && roster_snapshot_most() == ROSTER_SNAPSHOT_MOST, "the sizes");
@@ -36,5 +37,8 @@ int main(void)
                     "a snapshot written");
     failed += check(roster_read(snapshot, length, again, ROSTER_WORDS) == ROSTER_DONE && memcmp(board, again, sizeof board) == 0,
                     "and read back");
+    failed += check(roster_apply(snapshot, length, ROSTER_TICK, 0, 0, NULL, 0, again, ROSTER_WORDS, next, sizeof next, told) == ROSTER_DONE
+                        && told[0] == 1 && told[1] == 0 && told[2] == length && again[1] == 7 && next[8] == 7,
+                    "read, ticked and written in one call");
     return failed == 0 ? 0 : 1;
 }

@@ -37,6 +37,28 @@ enum roster_answer {
     ROSTER_NOT_A_SNAPSHOT = 13  /* a snapshot isn't a well-formed board's */
 };
 
+/* The steps' numbers, for roster_apply, with their arguments, first and second, and whether they take draws. */
+enum roster_step {
+    ROSTER_TICK = 1,
+    ROSTER_ADMIT_SPLIT = 2,     /* target */
+    ROSTER_ADMIT_MERGE = 3,     /* target; draws */
+    ROSTER_MARK_SEAT_READY = 4, /* target, machine */
+    ROSTER_MARK_QUIET = 5,      /* target, side */
+    ROSTER_DRAW_COHORT = 6,     /* target; draws */
+    ROSTER_LAPSE = 7,           /* target */
+    ROSTER_SCHEDULE_SPLITS = 8, /* draws */
+    ROSTER_SCHEDULE_MERGES = 9,
+    ROSTER_CUT_SPLITS = 10,
+    ROSTER_CUT_MERGES = 11,
+    ROSTER_LEAVE = 12,  /* machine; draws */
+    ROSTER_ROTATE = 13, /* shard, victim; draws */
+    ROSTER_RESOLVE = 14,
+    ROSTER_TIME_OUT = 15
+};
+
+/* What roster_apply answers where no step has the number. */
+#define ROSTER_NO_SUCH_STEP 15
+
 /* How many words a board is, and the most bytes that a snapshot has. */
 uint64_t roster_words(void);
 uint64_t roster_snapshot_most(void);
@@ -74,6 +96,14 @@ uint64_t roster_schedule_splits(uint64_t *board, size_t words, const uint64_t *d
 uint64_t roster_schedule_merges(uint64_t *board, size_t words, uint64_t results[2]);
 uint64_t roster_cut_splits(uint64_t *board, size_t words, uint64_t results[2]);
 uint64_t roster_cut_merges(uint64_t *board, size_t words, uint64_t results[2]);
+
+/* roster_read, a step by its number and roster_write in one call, with a board's rules asked once. Answers the step's number,
+ * and writes to `results` the count handled, the draws used and the length of the snapshot in `after`; after a step's refusal
+ * that is the snapshot read. Words past the board and bytes past the snapshot stay. With nothing written at all it answers
+ * ROSTER_NO_SUCH_STEP; 11 where `room` is below ROSTER_SNAPSHOT_MOST or `words` below ROSTER_WORDS; 13 where the bytes are no
+ * snapshot. Arguments and draws that a step doesn't take are not looked at. */
+uint64_t roster_apply(const uint8_t *snapshot, size_t bytes, uint64_t step, uint64_t first, uint64_t second, const uint64_t *draws,
+                      size_t number, uint64_t *board, size_t words, uint8_t *after, size_t room, uint64_t results[3]);
 
 #ifdef __cplusplus
 }

@@ -106,6 +106,10 @@ impl<W: AsRef<[u64]> + AsMut<[u64]>> Board<W> {
         self.words.as_ref()
     }
 
+    pub(crate) fn words_mut(&mut self) -> &mut [u64] {
+        self.words.as_mut()
+    }
+
     /// Its words, given back.
     #[must_use]
     pub fn into_words(self) -> W {

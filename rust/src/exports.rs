@@ -83,6 +83,20 @@ unsafe extern "C" {
     fn roster_schedule_merges(board: *mut u64, words: usize, results: Results) -> u64;
     fn roster_cut_splits(board: *mut u64, words: usize, results: Results) -> u64;
     fn roster_cut_merges(board: *mut u64, words: usize, results: Results) -> u64;
+    fn roster_apply(
+        snapshot: *const u8,
+        bytes: usize,
+        step: u64,
+        first: u64,
+        second: u64,
+        draws: *const u64,
+        number: usize,
+        board: *mut u64,
+        words: usize,
+        after: *mut u8,
+        room: usize,
+        results: *mut [u64; 3],
+    ) -> u64;
 }
 
 /// How many words a board is.
@@ -282,4 +296,38 @@ pub fn cut_splits(board: &mut [u64], results: &mut [u64; 2]) -> u64 {
 pub fn cut_merges(board: &mut [u64], results: &mut [u64; 2]) -> u64 {
     // SAFETY: board and results are lent for the whole call.
     unsafe { roster_cut_merges(board.as_mut_ptr(), board.len(), results) }
+}
+
+/// [`read`], the step of a number and [`write`], in one call: `first` and `second` are its arguments in their order, and
+/// [`crate::Step::numbers`] has its number. Answers the step's number, or with nothing written 13 where the bytes are no
+/// snapshot, 11 where there are too few words or fewer bytes than any snapshot has, 15 where no step has that number.
+/// The results are the count handled, the draws used and the length of the snapshot in `after`.
+#[allow(clippy::too_many_arguments)]
+pub fn apply(
+    snapshot: &[u8],
+    step: u64,
+    first: u64,
+    second: u64,
+    draws: &[u64],
+    board: &mut [u64],
+    after: &mut [u8],
+    results: &mut [u64; 3],
+) -> u64 {
+    // SAFETY: all five are lent for the whole call; the snapshot and the draws are only read.
+    unsafe {
+        roster_apply(
+            snapshot.as_ptr(),
+            snapshot.len(),
+            step,
+            first,
+            second,
+            draws.as_ptr(),
+            draws.len(),
+            board.as_mut_ptr(),
+            board.len(),
+            after.as_mut_ptr(),
+            after.len(),
+            results,
+        )
+    }
 }

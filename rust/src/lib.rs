@@ -25,8 +25,10 @@
 #![deny(unsafe_code)]
 
 mod answer;
+mod apply;
 mod board;
 pub mod exports;
 
 pub use answer::Answer;
+pub use apply::{Applied, Step};
 pub use board::{Board, Outcome, SNAPSHOT_MOST, Settings, ShardId, ValidatorId, WORDS};

@@ -1,7 +1,7 @@
 //! The wrapper over the exports: every step once, snapshots, wrong lengths.
 
 use roster::{
-    Answer, Board, Outcome, SNAPSHOT_MOST, Settings, ShardId, ValidatorId, WORDS, exports,
+    Answer, Board, Outcome, SNAPSHOT_MOST, Settings, ShardId, Step, ValidatorId, WORDS, exports,
 };
 
 fn settings() -> Settings {
@@ -148,4 +148,79 @@ fn words_that_hold_no_board_are_refused_and_kept() {
         Board::over(&mut short[..]).read(&[]),
         Err(Answer::NotASnapshot)
     );
+}
+
+#[test]
+fn a_step_from_snapshot_to_snapshot_is_read_step_and_write() {
+    let before = ward().snapshot().expect("a snapshot");
+    let one = ShardId(1);
+    let mut board = ward();
+    let steps = [
+        (Step::AdmitSplit(one), board.admit_split(one)),
+        (
+            Step::DrawCohort(one, &[0, 0]),
+            board.draw_cohort(one, &[0, 0]),
+        ),
+        (
+            Step::DrawCohort(one, &[0, 0, 0]),
+            board.draw_cohort(one, &[0, 0, 0]),
+        ),
+        (
+            Step::Leave(ValidatorId(22), &[]),
+            board.leave(ValidatorId(22), &[]),
+        ),
+        (Step::Tick, board.tick()),
+    ];
+    let mut room = Board::over(vec![7; WORDS + 1]);
+    let mut snapshot = before;
+    for (step, outcome) in steps {
+        let mut after = vec![9; SNAPSHOT_MOST];
+        let applied = room.apply(&snapshot, step, &mut after).expect("a snapshot");
+        assert_eq!(applied.outcome, outcome, "{step:?}");
+        assert!(after[applied.length..].iter().all(|byte| *byte == 9));
+        after.truncate(applied.length);
+        snapshot = after;
+    }
+    assert_eq!(snapshot, board.snapshot().expect("a snapshot"));
+    assert_eq!(room.words()[..WORDS], *board.words());
+    assert_eq!(room.words()[WORDS], 7);
+}
+
+#[test]
+fn a_refused_apply_writes_nothing() {
+    let bytes = ward().snapshot().expect("a snapshot");
+    let mut after = vec![9; SNAPSHOT_MOST];
+    let mut room = Board::over(vec![7; WORDS]);
+    let odd = &bytes[1..];
+    assert_eq!(
+        room.apply(odd, Step::Tick, &mut after),
+        Err(Answer::NotASnapshot)
+    );
+    assert_eq!(
+        room.apply(&bytes, Step::Tick, &mut after[1..]),
+        Err(Answer::NoRoom)
+    );
+    let mut short = Board::over(vec![7; WORDS - 1]);
+    assert_eq!(
+        short.apply(&bytes, Step::Tick, &mut after),
+        Err(Answer::NoRoom)
+    );
+    for number in [0, 16, u64::MAX] {
+        let mut results = [5; 3];
+        let mut words = vec![7; WORDS];
+        let answer = exports::apply(
+            &bytes,
+            number,
+            1,
+            1,
+            &[],
+            &mut words,
+            &mut after,
+            &mut results,
+        );
+        assert_eq!((answer, results), (15, [5; 3]));
+        assert!(words.iter().all(|word| *word == 7));
+    }
+    assert!(room.words().iter().all(|word| *word == 7));
+    assert!(after.iter().all(|byte| *byte == 9));
 }

@@ -1,4 +1,5 @@
 pub mod EachKind
 pub mod Streams
+pub mod Members
 pub mod Bytes
 pub mod Boards

@@ -1,6 +1,6 @@
 -- STREAMS DECIDED, once for every kind of row: what pass one tells row by row is what stands in the words.
 use Prim.Native.Nat.{ℕ, suc, _+_, _-_, _≤_, _<_}
-use mathlib.Core.Path.{_≡_, refl, ap, sym, _∙_}
+use mathlib.Core.Path.{_≡_, refl, ap, sym, subst, _∙_}
 use mathlib.Core.List.{List, [], _∷_, _++_, append-assoc}
 use mathlib.Core.Logic.{_⊎_, inl, inr}
 use mathlib.Core.Bool.{Bool, true, false, false≢true}
@@ -9,7 +9,7 @@ use native.Mathlib.Numerals.{add-one}
 use borrow.Author.Tests.{leb-true, le-leb, eqb-true, eq-eqb}
 use lib.Dec.{eqb}
 use lib.ListN.{length, getD, drop, length-append, length-drop}
-use lib.Seq.{drop-cons, getD-drop}
+use lib.Seq.{drop-cons, getD-drop, take-append-seam}
 use Rattle.rules.specs.Lists.{every}
 use Rattle.rules.specs.WellFormed.{rising, goodList}
 use Rattle.rules.specs.Snapshot.{rowsWords, section}
@@ -17,7 +17,7 @@ use Rattle.rules.proofs.Tests.{and-parts, and-joins, all-parts, all-joins, ever
 use Rattle.row_tests.specs.declared.RowKind.{RowKind}
 use Rattle.word_tests.specs.Tests.{rises}
 use Rattle.row_tests.specs.Rows.{rowOk, inPairs, widthOf}
-use Rattle.word_tests.proofs.Decides.{Words}
+use Rattle.word_tests.proofs.Decides.{Words, words-cut}
 use Rattle.unpacking.specs.Unpacked.{RowOf, fullRow, snapRow, packedRow, RowRead}
 use Rattle.unpacking.proofs.Parts.{follows}
 use Rattle.unpacking.proofs.Rows.{packs-row, row-some}
@@ -34,9 +34,15 @@ rises-two pairs t ws at a b p q =
 
 -- ---- a row
 
+-- what stands among words are words
+pub part-words : (ws t u : List ℕ) (at : ℕ) → Words ws → drop at ws ≡ t ++ u → Words t
+part-words ws t u at h e =
+    let p : Words (t ++ u) = subst Words e (words-cut at ws h .1) in
+    subst Words (take-append-seam t u) (words-cut (length t) (t ++ u) p .0)
+
 module _ (k : RowKind) (last : Bool) (ws : List ℕ) (at : ℕ) where
   -- no row stands there
-  none-told : ((e : ℕ) → RowAt k last ws at e → ⊥) → TellsRow k last ws at 0
+  pub none-told : ((e : ℕ) → RowAt k last ws at e → ⊥) → TellsRow k last ws at 0
   none-told h = record { yes = λ p. absurd (omega arith); held = λ e p. absurd (h e p) }
 
   -- of what was unpacked

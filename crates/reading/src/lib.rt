@@ -1,9 +1,11 @@
 // Bytes to the lent words of a board: first whether they are a well-formed board's snapshot, then its words.
 use board::layout::BOARD_SIZE;
+use board::layout::MACHINE_WIDTH;
 use board::layout::MACHINES_AT;
 use board::layout::MOST_BOUNDS;
 use board::layout::MOST_COMMITTEES;
 use board::layout::MOST_MACHINES;
+use board::layout::MOST_MEMBERS;
 use board::layout::MOST_RESHAPES;
 use board::layout::MOST_ROTATIONS;
 use board::layout::RESHAPE_WIDTH;
@@ -13,21 +15,36 @@ use row_tests::RowKind;
 use row_tests::row_ok;
 use types::Answer;
 use unpacking::unpack_board;
+use unpacking::unpack_machine;
 use unpacking::unpack_row;
 use unpacking::width;
 use unpacking::word;
 use wellformed::settings_ok;
+use word_tests::ids_ok;
+use word_tests::inside;
 use word_tests::rises;
 ghost use mathlib.Core.Path.{_≡_};
 ghost use mathlib.Core.List.{List};
-ghost use Prim.Native.Nat.{ℕ, _%_, _≤_};
-ghost use lib.ListN.{length, drop};
-ghost use Rattle.word_tests.specs.Tests.{rises};
-ghost use Rattle.row_tests.specs.Rows.{inPairs, widthOf};
+ghost use mathlib.Core.Bool.{_&&_};
+ghost use Prim.Native.Nat.{ℕ, _+_, _/_, _%_, _≤_};
+ghost use lib.ListN.{length, getD, drop};
+ghost use Rattle.word_tests.specs.Tests.{at, idsOk, rises};
+ghost use Rattle.rules.specs.Board.{mostMachines, mostMembers};
+ghost use Rattle.rules.specs.WellFormed.{isShard};
+ghost use Rattle.board.specs.Layout.{machineWidth, committeeWidth, reshapeWidth};
+ghost use Rattle.row_tests.specs.Rows.{caseOk, machineOk, inPairs, widthOf};
 ghost use Rattle.snapshot.specs.ReadAs.{ReadAs};
 ghost use Rattle.unpacking.specs.AsWords.{AsWords};
 ghost use Rattle.reading.specs.Told.{TellsSnapshot};
 ghost use Rattle.reading.specs.Stream.{TellsRow, TellsSection, TellsHead};
+
+// ---- The ranges of rules/specs/Board.antt
+
+const LAST_STAMP: u64 = 8589934591;
+
+const LAST_SHARD: u64 = 65535;
+
+const LAST_MARK: u64 = 255;
 
 // ---- Rows
 
@@ -53,8 +70,8 @@ fn rises_to(pairs: bool, t: &[u64], bytes: &[u8], at: usize) -> bool
     rises(pairs, t, &next)
 }
 
-// Where the good row at a place ends, below the next row unless it is the last; 0 where there is none.
-pub fn row_end(k: RowKind, last: bool, bytes: &[u8], at: usize, out: &mut [u64]) -> usize
+// As `row_end`, by the row in full width.
+fn wide_end(k: RowKind, last: bool, bytes: &[u8], at: usize, out: &mut [u64]) -> usize
     requires { ⌜ (length (now bytes) % 8 ≡ 0) × (length (now out) ≡ widthOf k) ⌝ }
     ensures { λ r. ⌜ ((ws : List ℕ) → AsWords (now (bytes .entry)) ws → TellsRow k last ws at r) ⌝ }
 {
@@ -74,11 +91,158 @@ pub fn row_end(k: RowKind, last: bool, bytes: &[u8], at: usize, out: &mut [u64])
     e
 }
 
+// ---- Committees: the members as they are read, without the room past them
+
+fn members_ok(n: usize, t: &[u64]) -> bool
+    requires { ⌜ length (now t) ≡ 2 + n ⌝ }
+    ensures { λ r. ⌜ r ≡ (isShard (at (now (t .entry)) 0) && idsOk n (drop 1 (now (t .entry)))) ⌝ }
+{
+    inside(1, LAST_SHARD, t[0]) & ids_ok(n, &t[1..])
+}
+
+// As `row_end`, of a committee of n.
+fn members_end(last: bool, n: usize, bytes: &[u8], at: usize, row: &mut [u64]) -> usize
+    requires { ⌜ (length (now row) ≡ 2 + n) × (at + 2 + n ≤ length (now bytes) / 8) × (n ≤ mostMembers) ⌝ }
+    ensures { λ r. ⌜ ((ws : List ℕ) → AsWords (now (bytes .entry)) ws → n ≡ getD ws (at + 1) 0 → TellsRow RowKind.Committees last ws at r) ⌝ }
+{
+    get_words(bytes, 8 * at, row);
+    if !members_ok(n, row) {
+        return 0;
+    }
+    let e = at + 2 + n;
+    if last {
+        return e;
+    }
+    if !rises_to(false, row, bytes, e) {
+        return 0;
+    }
+    e
+}
+
+// As `row_end`, of a committee.
+fn committee_end(last: bool, bytes: &[u8], at: usize, row: &mut [u64]) -> usize
+    requires { ⌜ length (now row) ≡ committeeWidth ⌝ }
+    ensures { λ r. ⌜ ((ws : List ℕ) → AsWords (now (bytes .entry)) ws → TellsRow RowKind.Committees last ws at r) ⌝ }
+{
+    let total = bytes.len() / 8;
+    if total <= at {
+        return 0;
+    }
+    let n = word(bytes, at + 1) as usize;
+    if MOST_MEMBERS < n {
+        return 0;
+    }
+    if total < at + 2 + n {
+        return 0;
+    }
+    let k = 2 + n;
+    members_end(last, n, bytes, at, &mut row[..k])
+}
+
+// ---- A row of any kind
+
+// Where the good row at a place ends, below the next row unless it is the last; 0 where there is none.
+pub fn row_end(k: RowKind, last: bool, bytes: &[u8], at: usize, out: &mut [u64]) -> usize
+    requires { ⌜ (length (now bytes) % 8 ≡ 0) × (length (now out) ≡ widthOf k) ⌝ }
+    ensures { λ r. ⌜ ((ws : List ℕ) → AsWords (now (bytes .entry)) ws → TellsRow k last ws at r) ⌝ }
+{
+    match k {
+        RowKind::Machines => wide_end(k, last, bytes, at, out),
+        RowKind::Committees => committee_end(last, bytes, at, out),
+        RowKind::Boundaries => wide_end(k, last, bytes, at, out),
+        RowKind::Rotations => wide_end(k, last, bytes, at, out),
+        RowKind::Reshapes => wide_end(k, last, bytes, at, out),
+    }
+}
+
+// ---- Machines: by far the most rows, tested as they are read
+
+// A place's four words: of this code, its mark from low to high, its ready and its stamp at most these.
+fn case_ok(
+    code: u64,
+    mark: u64,
+    ready: u64,
+    stamp: u64,
+    k: u64,
+    low: u64,
+    high: u64,
+    r: u64,
+    s: u64,
+) -> bool
+    ensures { λ o. ⌜ o ≡ caseOk code mark ready stamp k low high r s ⌝ }
+{
+    (code == k) & inside(low, high, mark) & (ready <= r) & (stamp <= s)
+}
+
+// Pooled, seated, observing, short or other: all five are asked, which leaves no branch.
+fn place_ok(t: &[u64]) -> bool
+    requires { ⌜ length (now t) ≡ machineWidth ⌝ }
+    ensures { λ r. ⌜ r ≡ machineOk (now (t .entry)) ⌝ }
+{
+    let c = t[1];
+    let m = t[2];
+    let r = t[3];
+    let s = t[4];
+    case_ok(c, m, r, s, 0, 0, 0, 0, 0)
+        | case_ok(c, m, r, s, 1, 1, LAST_SHARD, 1, LAST_STAMP)
+        | case_ok(c, m, r, s, 2, 1, LAST_SHARD, 0, LAST_STAMP)
+        | case_ok(c, m, r, s, 3, 0, 0, 0, 0)
+        | case_ok(c, m, r, s, 4, 1, LAST_MARK, 0, 0)
+}
+
+// As `row_end`, of a machine.
+fn machine_end(last: bool, bytes: &[u8], at: usize) -> usize
+    requires { ⌜ length (now bytes) % 8 ≡ 0 ⌝ }
+    ensures { λ r. ⌜ ((ws : List ℕ) → AsWords (now (bytes .entry)) ws → TellsRow RowKind.Machines last ws at r) ⌝ }
+{
+    let mut t: [u64; MACHINE_WIDTH] = [0; MACHINE_WIDTH];
+    let e = unpack_machine(bytes, at, &mut t);
+    if e == 0 {
+        return 0;
+    }
+    if !place_ok(&t) {
+        return 0;
+    }
+    if last {
+        return e;
+    }
+    if !rises_to(false, &t, bytes, e) {
+        return 0;
+    }
+    e
+}
+
+// As `section_end`, of the machines.
+fn machines_end(bytes: &[u8], at: usize) -> usize
+    requires { ⌜ length (now bytes) % 8 ≡ 0 ⌝ }
+    ensures { λ r. ⌜ ((ws : List ℕ) → AsWords (now (bytes .entry)) ws → TellsSection RowKind.Machines mostMachines ws at r) ⌝ }
+{
+    if at == 0 {
+        return 0;
+    }
+    if bytes.len() / 8 <= at {
+        return 0;
+    }
+    let mut n = word(bytes, at) as usize;
+    if MOST_MACHINES < n {
+        return 0;
+    }
+    let mut a = at + 1;
+    while 0 < n {
+        a = machine_end(n == 1, bytes, a);
+        if a == 0 {
+            return 0;
+        }
+        n -= 1;
+    }
+    a
+}
+
 // ---- Sections
 
-// Where the good section at a place ends; 0 where there is none.
-fn section_end(k: RowKind, cap: usize, bytes: &[u8], at: usize) -> usize
-    requires { ⌜ length (now bytes) % 8 ≡ 0 ⌝ }
+// Where the good section at a place ends; 0 where there is none. `row` is scratch for its rows.
+fn section_end(k: RowKind, cap: usize, bytes: &[u8], at: usize, row: &mut [u64]) -> usize
+    requires { ⌜ (length (now bytes) % 8 ≡ 0) × (length (now row) ≡ reshapeWidth) ⌝ }
     ensures { λ r. ⌜ ((ws : List ℕ) → AsWords (now (bytes .entry)) ws → TellsSection k cap ws at r) ⌝ }
 {
     if at == 0 {
@@ -92,7 +256,6 @@ fn section_end(k: RowKind, cap: usize, bytes: &[u8], at: usize) -> usize
         return 0;
     }
     let w = width(k);
-    let mut row: [u64; RESHAPE_WIDTH] = [0; RESHAPE_WIDTH];
     let mut a = at + 1;
     while 0 < n {
         a = row_end(k, n == 1, bytes, a, &mut row[..w]);
@@ -125,11 +288,12 @@ pub fn is_snapshot(bytes: &[u8]) -> bool
     if bytes.len() % 8 != 0 {
         return false;
     }
-    let m = section_end(RowKind::Machines, MOST_MACHINES, bytes, SETTINGS_END);
-    let c = section_end(RowKind::Committees, MOST_COMMITTEES, bytes, m);
-    let b = section_end(RowKind::Boundaries, MOST_BOUNDS, bytes, c);
-    let o = section_end(RowKind::Rotations, MOST_ROTATIONS, bytes, b);
-    let r = section_end(RowKind::Reshapes, MOST_RESHAPES, bytes, o);
+    let mut row: [u64; RESHAPE_WIDTH] = [0; RESHAPE_WIDTH];
+    let m = machines_end(bytes, SETTINGS_END);
+    let c = section_end(RowKind::Committees, MOST_COMMITTEES, bytes, m, &mut row);
+    let b = section_end(RowKind::Boundaries, MOST_BOUNDS, bytes, c, &mut row);
+    let o = section_end(RowKind::Rotations, MOST_ROTATIONS, bytes, b, &mut row);
+    let r = section_end(RowKind::Reshapes, MOST_RESHAPES, bytes, o, &mut row);
     head_ok(bytes) & (r == bytes.len() / 8)
 }
 

@@ -11,6 +11,8 @@ ghost use Rattle.rules.specs.Places.{tick, leave, rotate, resolve, timeOut};
 ghost use Rattle.rules.specs.Reshapes.{admitSplit, admitMerge, markSeatReady, markQuiet, drawCohort, lapse};
 ghost use Rattle.rules.specs.Schedule.{scheduleSplits, scheduleMerges};
 ghost use Rattle.rules.specs.Cut.{cutSplits, cutMerges};
+ghost use Rattle.applying.specs.Asked.{callOf};
+ghost use Rattle.applying.specs.Applied.{Applied};
 ghost use Rattle.seats.specs.Tells.{SeatedWell};
 ghost use Rattle.roster.specs.Exported.{ExportedStep, ExportedCheck, ExportedWrite, ExportedRead};
 
@@ -237,4 +239,23 @@ pub extern "C" fn roster_cut_merges(board: &mut [u64], results: &mut [u64; 2]) -
 {
     let told = cut_merges::apply_scheduled_merges(board);
     tell(told, results)
+}
+
+// A read, the step of that number on the board read, and a write of what it left: as the three one after another, but that
+// the board's rules are asked once. The results are those of the step and the length of the snapshot.
+#[no_mangle]
+pub extern "C" fn roster_apply(
+    snapshot: &[u8],
+    step: u64,
+    first: u64,
+    second: u64,
+    draws: &[u64],
+    board: &mut [u64],
+    after: &mut [u8],
+    results: &mut [u64; 3],
+) -> u64
+    ensures { λ r. ⌜ Applied (callOf step first second (now (draws .entry))) (now (snapshot .entry)) (now (board .entry)) (now (after .entry)) (now (results .entry))
+        (now (board .exit)) (now (after .exit)) (now (results .exit)) r ⌝ }
+{
+    applying::apply(snapshot, step, first, second, draws, board, after, results)
 }

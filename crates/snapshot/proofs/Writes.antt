@@ -34,11 +34,11 @@ module _ {ws : List ℕ} {b : Board} (h : Holds ws b) where
   held-words : packed ws ≡ wordsOf b
   held-words = ap packed (h .words) ∙ packed-encode b (h .fits)
 
-  held-long : length (packed ws) * 8 ≡ length (snapshotOf b)
+  pub held-long : length (packed ws) * 8 ≡ length (snapshotOf b)
   unfolding snapshotOf
   held-long = ap (λ (l : List ℕ). length l * 8) held-words ∙ sym (bytes-length (wordsOf b))
 
-  held-bytes : (before after : List ℕ) (p : ℕ) → Put (packed ws) 0 before after p → after ≡ snapshotOf b ++ drop (length (snapshotOf b)) before
+  pub held-bytes : (before after : List ℕ) (p : ℕ) → Put (packed ws) 0 before after p → after ≡ snapshotOf b ++ drop (length (snapshotOf b)) before
   unfolding laid snapshotOf
   held-bytes before after p u =
       let z : 0 + length (packed ws) * 8 ≡ length (bytesOf (wordsOf b)) = zero-add _ ∙ held-long in

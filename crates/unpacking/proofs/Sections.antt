@@ -2,7 +2,7 @@
 use Prim.Native.Nat.{ℕ, suc, _+_, _-_, _*_, _≤_, _<_}
 use mathlib.Core.Path.{_≡_, refl, ap, sym, subst, _∙_}
 use mathlib.Core.List.{List, [], _∷_, _++_, append-assoc, append-nil}
-use mathlib.Core.Bool.{true}
+use mathlib.Core.Bool.{true, false≢true}
 use native.Mathlib.Omega.{arith}
 use native.Mathlib.Nat.{mul-le-mul-right}
 use borrow.Rule.Slice.PartMut.{putMid}
@@ -14,10 +14,11 @@ use Rattle.rules.proofs.Tests.{every-parts}
 use Rattle.tables.specs.Rows.{table}
 use Rattle.tables.proofs.Tables.{pad-is, rows-length}
 use Rattle.row_tests.specs.declared.RowKind.{RowKind}
+use Rattle.row_tests.specs.declared.RowKind.the-variants.{Machines, Committees, Boundaries, Rotations, Reshapes}
 use Rattle.row_tests.specs.Rows.{widthOf}
 use Rattle.unpacking.specs.AsWords.{AsWords}
 use Rattle.unpacking.specs.Parts.{PartRead, plain, Wide}
-use Rattle.unpacking.specs.Unpacked.{RowOf, fullRow, snapRow, roomyRow, RowRead, RowsRead, TableRead}
+use Rattle.unpacking.specs.Unpacked.{RowOf, fullRow, snapRow, roomyRow, isPlain, RowRead, RowsRead, TableRead}
 use Rattle.unpacking.proofs.Parts.{follows, lent-words, Filled, filled-none, filled-next, filled-all}
 use Rattle.unpacking.proofs.Rows.{row-wide}
 
@@ -111,6 +112,35 @@ module _ {k : RowKind} {w n : ℕ} {bytes : List ℕ} {at : ℕ} {before out : L
           → take a out ++ rowsWords (fullRow k) rows ≡ rowsWords (fullRow k) xs → (out ≡ rowsWords (fullRow k) xs) × (next ≡ at + length (rowsWords (snapRow k) xs))
       ends xs [] c e f = (sym (take-all a out (omega (arith, u .room, u .long, ap (λ (m : ℕ). m * w) c))) ∙ sym (append-nil (take a out)) ∙ f, omega arith)
       ends xs (x ∷ rows) c e f = absurd (omega arith)
+
+-- rows without lists, read at once
+
+plain-rows : (k : RowKind) → isPlain k ≡ true → (xs : List (RowOf k)) → rowsWords (snapRow k) xs ≡ rowsWords (fullRow k) xs
+plain-rows Machines h xs = refl
+plain-rows Committees h xs = absurd (false≢true h)
+plain-rows Boundaries h xs = refl
+plain-rows Rotations h xs = refl
+plain-rows Reshapes h xs = absurd (false≢true h)
+
+width-some : (k : RowKind) → 0 < widthOf k
+width-some Machines = omega arith
+width-some Committees = omega arith
+width-some Boundaries = omega arith
+width-some Rotations = omega arith
+width-some Reshapes = omega arith
+
+pub plain-read : (k : RowKind) (w n at r : ℕ) (ws out t : List ℕ) → isPlain k ≡ true → 0 < n → w ≡ widthOf k → length out ≡ n * w → PartRead plain (Wide (length out)) ws t at r
+    → RowsRead k n ws t at r
+plain-read k w n at r ws out t h more width long q = record {
+  whole = λ xs rest c g p.
+      let e = plain-rows k h xs in
+      let l : length (rowsWords (fullRow k) xs) ≡ length out =
+      rows-length (fullRow k) (widthOf k) (row-wide k) xs ∙ ap (λ (m : ℕ). m * widthOf k) c ∙ ap (λ (m : ℕ). n * m) (sym width) ∙ sym long in
+      let s : n ≡ suc (n - 1) = omega arith in
+      let some : 0 < length out = omega (arith, ap (λ (m : ℕ). m * w) s, width-some k) in
+      let v = q .whole (rowsWords (fullRow k) xs) rest (some, l) (p ∙ ap (λ (u : List ℕ). u ++ rest) e) in
+      (v .0, v .1 ∙ ap (λ (u : List ℕ). at + length u) (sym e));
+}
 
 -- ---- a table
 

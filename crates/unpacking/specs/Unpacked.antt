@@ -2,7 +2,7 @@
 use Prim.Native.Nat.{ℕ, _+_, _≤_, _<_}
 use mathlib.Core.Path.{_≡_}
 use mathlib.Core.List.{List, _++_}
-use mathlib.Core.Bool.{Bool, true}
+use mathlib.Core.Bool.{Bool, true, false}
 use lib.ListN.{length, drop}
 use Rattle.types.specs.Numbers.{Id}
 use Rattle.types.specs.declared.Place.{Place}
@@ -63,6 +63,14 @@ mostOf Committees = mostCommittees
 mostOf Boundaries = mostBounds
 mostOf Rotations = mostRotations
 mostOf Reshapes = mostReshapes
+
+-- a row without lists: its words are the same in both
+abbrev pub isPlain : RowKind → Bool
+isPlain Machines = true
+isPlain Committees = false
+isPlain Boundaries = true
+isPlain Rotations = true
+isPlain Reshapes = false
 
 -- words of a roomy row
 pub record GoodRow (k : RowKind) (v : List ℕ) : Type 0 where

@@ -36,12 +36,12 @@ ghost use lib.ListN.{length, getD, drop};
 ghost use Rattle.rules.specs.Board.{Board};
 ghost use Rattle.rules.specs.Snapshot.{snapshotOf};
 ghost use Rattle.rules.specs.WellFormed.{wellFormed};
-ghost use Rattle.board.specs.Layout.{committeeWidth, reshapeWidth, machinesAt, boardSize, encode};
+ghost use Rattle.board.specs.Layout.{machineWidth, committeeWidth, reshapeWidth, machinesAt, boardSize, encode};
 ghost use Rattle.packing.specs.Packed.{flat, committee, reshape};
 ghost use Rattle.row_tests.specs.Rows.{widthOf};
 ghost use Rattle.unpacking.specs.AsWords.{AsWords};
 ghost use Rattle.unpacking.specs.Parts.{PartRead, plain, Wide, Listed};
-ghost use Rattle.unpacking.specs.Unpacked.{mostOf, GoodRow, packedRow, RowRead, RowsRead, TableRead, SettingsRead};
+ghost use Rattle.unpacking.specs.Unpacked.{mostOf, isPlain, GoodRow, packedRow, RowRead, RowsRead, TableRead, SettingsRead};
 
 // ---- Words
 
@@ -154,10 +154,22 @@ pub fn unpack_row(k: RowKind, bytes: &[u8], at: usize, out: &mut [u64]) -> usize
     r
 }
 
+// The same of a machine, whose kind is then not looked for.
+pub fn unpack_machine(bytes: &[u8], at: usize, out: &mut [u64]) -> usize
+    requires { ⌜ length (now out) ≡ machineWidth ⌝ }
+    ensures { λ r. ⌜ ((ws : List ℕ) → AsWords (now (bytes .entry)) ws → RowRead RowKind.Machines ws (now (out .exit)) at r) ⌝ }
+{
+    let r = unpack_words(bytes, at, out);
+    if bytes.len() / 8 < r {
+        return 0;
+    }
+    r
+}
+
 // ---- The board
 
 // n rows, one after another; where the next section stands.
-fn unpack_rows(k: RowKind, w: usize, n: usize, bytes: &[u8], at: usize, out: &mut [u64]) -> usize
+fn unpack_each(k: RowKind, w: usize, n: usize, bytes: &[u8], at: usize, out: &mut [u64]) -> usize
     requires { ⌜ (w ≡ widthOf k) × (length (now out) ≡ n * w) ⌝ }
     ensures { λ r. ⌜ ((ws : List ℕ) → AsWords (now (bytes .entry)) ws → RowsRead k n ws (now (out .exit)) at r) ⌝ }
 {
@@ -171,6 +183,30 @@ fn unpack_rows(k: RowKind, w: usize, n: usize, bytes: &[u8], at: usize, out: &mu
         left -= 1;
     }
     next
+}
+
+// A row without lists has the same words in a snapshot and in a board.
+fn is_plain(k: RowKind) -> bool
+    ensures { λ r. ⌜ r ≡ isPlain k ⌝ }
+{
+    match k {
+        RowKind::Machines => true,
+        RowKind::Committees => false,
+        RowKind::Boundaries => true,
+        RowKind::Rotations => true,
+        RowKind::Reshapes => false,
+    }
+}
+
+// The same; rows without lists all at once.
+fn unpack_rows(k: RowKind, w: usize, n: usize, bytes: &[u8], at: usize, out: &mut [u64]) -> usize
+    requires { ⌜ (w ≡ widthOf k) × (length (now out) ≡ n * w) ⌝ }
+    ensures { λ r. ⌜ ((ws : List ℕ) → AsWords (now (bytes .entry)) ws → RowsRead k n ws (now (out .exit)) at r) ⌝ }
+{
+    if is_plain(k) & (0 < n) {
+        return unpack_words(bytes, at, out);
+    }
+    unpack_each(k, w, n, bytes, at, out)
 }
 
 // A count within cap and that many rows; the room past them is cleared.

@@ -3,10 +3,10 @@
 
 use calls::{Call, bytes_of};
 use plain::{Outcome, Step};
-use roster::Board;
+use roster::{Board, SNAPSHOT_MOST};
 
 use crate::case::{Case, Expected};
-use crate::{Lent, Loan, Subject};
+use crate::{Lent, Loan, Round, Subject, WORDS, pack};
 
 /// Guards around words and around bytes.
 const WORD: u64 = 0xA5A5_0123_4567_5A5A;
@@ -23,6 +23,15 @@ pub struct Checker<S> {
     draws: Lent<u64>,
     results: Lent<u64>,
     snapshot: Lent<u8>,
+    after: Lent<u8>,
+}
+
+/// What a step from snapshot to snapshot is lent: bytes in, words and bytes of room, and the number of its step.
+struct Apply<'a> {
+    number: u64,
+    bytes: &'a [u8],
+    words: usize,
+    room: usize,
 }
 
 fn demand(holds: bool, why: impl FnOnce() -> String) -> Result<(), String> {
@@ -64,6 +73,7 @@ impl<S: Subject> Checker<S> {
             draws: Lent::new(WORD),
             results: Lent::new(WORD),
             snapshot: Lent::new(BYTE),
+            after: Lent::new(BYTE),
         }
     }
 
@@ -77,9 +87,11 @@ impl<S: Subject> Checker<S> {
         self.take_back();
         if case.call.step == Step::Read {
             self.read(&case.snapshot(), &expected)?;
+            self.apply_refused(case, &expected)?;
         } else {
             self.step(&case.call, &expected)?;
             self.again(&case.call, &expected)?;
+            self.apply(&case.call, &expected)?;
             let held = u64::from(expected.snapshot.is_some());
             let said = self.subject.well_formed(&expected.lent);
             demand(said == held, || format!("the check before says {said}"))?;
@@ -101,13 +113,15 @@ impl<S: Subject> Checker<S> {
             words.lend(&[]);
         }
         self.snapshot.lend(&[]);
+        self.after.lend(&[]);
     }
 
     fn guarded(&self, what: &str) -> Result<(), String> {
         let holds = self.board.guarded()
             && self.draws.guarded()
             && self.results.guarded()
-            && self.snapshot.guarded();
+            && self.snapshot.guarded()
+            && self.after.guarded();
         demand(holds, || format!("{what}: a guard was written over"))
     }
 
@@ -130,6 +144,90 @@ impl<S: Subject> Checker<S> {
         same("the board", self.board.inner(), &expected.left)?;
         same("the draws", self.draws.inner(), &call.draws)?;
         self.guarded("the step")
+    }
+
+    /// Snapshot in, step, snapshot out in one call, on the board that stood there: what the three calls leave. Then with
+    /// too few words, too few bytes, bytes that are no snapshot, and no step's number: nothing is written.
+    fn apply(&mut self, call: &Call, expected: &Expected) -> Result<(), String> {
+        let (Some(before), Some(after)) = (pack(&expected.lent), &expected.snapshot) else {
+            return Ok(());
+        };
+        let (before, after) = (bytes_of(&before), bytes_of(after));
+        let past = call.draws.len() % 3;
+        let whole = Apply {
+            number: call.step as u64,
+            bytes: &before,
+            words: WORDS + past,
+            room: SNAPSHOT_MOST + past,
+        };
+        let Outcome {
+            answer,
+            handled,
+            used,
+        } = expected.outcome;
+        let counts = [handled, used, after.len() as u64];
+        self.applied(call, &whole, answer, counts)?;
+        let (words, rest) = self.board.inner().split_at(WORDS);
+        same("the board of the one call", words, &expected.left)?;
+        same("the words past it", rest, &vec![UNSET; past])?;
+        let (written, rest) = self.after.inner().split_at(after.len());
+        same("the snapshot of the one call", written, &after)?;
+        let blank = vec![BLANK; whole.room - after.len()];
+        same("the bytes past it", rest, &blank)?;
+        let cut = &before[..before.len() - 8 + past];
+        let (few, short) = (WORDS - 1 - past, SNAPSHOT_MOST - 1 - past);
+        self.unapplied(call, &Apply { words: few, ..whole }, 11)?;
+        self.unapplied(call, &Apply { room: short, ..whole }, 11)?;
+        self.unapplied(call, &Apply { bytes: cut, ..whole }, 13)?;
+        let number = if past == 0 { 0 } else { 15 + past as u64 };
+        self.unapplied(call, &Apply { number, ..whole }, 15)
+    }
+
+    /// A tick from bytes that a read refuses is refused as the read is.
+    fn apply_refused(&mut self, case: &Case, expected: &Expected) -> Result<(), String> {
+        let answer = expected.outcome.answer;
+        if answer == 0 {
+            return Ok(());
+        }
+        let apply = Apply {
+            number: Step::Tick as u64,
+            bytes: &case.snapshot(),
+            words: case.words,
+            room: SNAPSHOT_MOST,
+        };
+        self.unapplied(&case.call, &apply, answer)
+    }
+
+    /// Makes the one call; its answer and counts, and what is only read.
+    fn applied(
+        &mut self,
+        call: &Call,
+        apply: &Apply,
+        answer: u64,
+        counts: [u64; 3],
+    ) -> Result<(), String> {
+        let mut round = Round {
+            snapshot: self.snapshot.lend(apply.bytes),
+            draws: self.draws.lend(&call.draws),
+            board: self.board.lend(&vec![UNSET; apply.words]),
+            after: self.after.lend(&vec![BLANK; apply.room]),
+            results: self.results.lend(&[UNSET; 3]),
+        };
+        let said = self.subject.apply(apply.number, call, &mut round);
+        demand(said == answer, || {
+            format!("the one call: the library answers {said} and the oracle {answer}")
+        })?;
+        same("its counts", self.results.inner(), &counts)?;
+        same("its bytes read", self.snapshot.inner(), apply.bytes)?;
+        same("its draws", self.draws.inner(), &call.draws)?;
+        self.guarded("the one call")
+    }
+
+    fn unapplied(&mut self, call: &Call, apply: &Apply, answer: u64) -> Result<(), String> {
+        self.applied(call, apply, answer, [UNSET; 3])?;
+        let (words, bytes) = (vec![UNSET; apply.words], vec![BLANK; apply.room]);
+        same("the words of a refused call", self.board.inner(), &words)?;
+        same("the bytes of a refused call", self.after.inner(), &bytes)
     }
 
     /// The same call on an equal board, owned and without guards, so that

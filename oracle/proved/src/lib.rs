@@ -15,4 +15,4 @@ pub use layout::{WORDS, pack, unpack};
 pub use lent::Lent;
 pub use run::Run;
 pub use shrink::{reproduction, smallest};
-pub use subject::{Library, Loan, Subject, export};
+pub use subject::{Library, Loan, Round, Subject, arguments, export};

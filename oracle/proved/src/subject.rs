@@ -14,6 +14,15 @@ pub struct Loan<'a> {
     pub results: &'a mut Lent<u64>,
 }
 
+/// What a step from snapshot to snapshot is lent.
+pub struct Round<'a> {
+    pub snapshot: &'a mut Lent<u8>,
+    pub draws: &'a mut Lent<u64>,
+    pub board: &'a mut Lent<u64>,
+    pub after: &'a mut Lent<u8>,
+    pub results: &'a mut Lent<u64>,
+}
+
 /// The exports, by their step: each gives the answer's number.
 pub trait Subject {
     fn step(&mut self, call: &Call, loan: &mut Loan) -> u64;
@@ -28,6 +37,9 @@ pub trait Subject {
     fn read(&mut self, snapshot: &mut Lent<u8>, board: &mut Lent<u64>) -> u64;
 
     fn write(&mut self, board: &[u64], snapshot: &mut Lent<u8>, length: &mut Lent<u64>) -> u64;
+
+    /// The step of that number, with the call's arguments, in one call with the read and the write.
+    fn apply(&mut self, number: u64, call: &Call, round: &mut Round) -> u64;
 }
 
 /// The proved library.
@@ -82,6 +94,32 @@ impl Subject for Library {
 
     fn write(&mut self, board: &[u64], snapshot: &mut Lent<u8>, length: &mut Lent<u64>) -> u64 {
         exports::write(board, snapshot.inner_mut(), &mut length.inner_mut()[0])
+    }
+
+    fn apply(&mut self, number: u64, call: &Call, round: &mut Round) -> u64 {
+        let (first, second) = arguments(call);
+        let results = round.results.inner_mut();
+        exports::apply(
+            round.snapshot.inner(),
+            number,
+            first,
+            second,
+            round.draws.inner(),
+            round.board.inner_mut(),
+            round.after.inner_mut(),
+            results.try_into().expect("three words are lent"),
+        )
+    }
+}
+
+/// The step's arguments in the order of its export.
+#[must_use]
+pub fn arguments(call: &Call) -> (u64, u64) {
+    let (shard, machine, side) = (call.args.shard, call.args.machine, call.args.side);
+    match call.step {
+        Step::Leave => (machine, shard),
+        Step::MarkQuiet => (shard, side),
+        _ => (shard, machine),
     }
 }
 

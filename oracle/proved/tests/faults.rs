@@ -3,7 +3,9 @@
 
 use calls::{Call, Rng, any_series};
 use plain::{Outcome, Step};
-use proved::{Case, Checker, Lent, Library, Loan, Run, Subject, reproduction, smallest};
+use proved::{
+    Case, Checker, Lent, Library, Loan, Round, Run, Subject, reproduction, smallest,
+};
 use roster::Board;
 
 #[derive(Clone, Copy, Debug, PartialEq, Eq)]
@@ -34,9 +36,14 @@ enum Fault {
     Length,
     /// A board read.
     ReadWord,
+    /// Of the one call: a word, a byte, the length, a refusal that writes.
+    AppliedWord,
+    AppliedByte,
+    AppliedLength,
+    AppliedRefusal,
 }
 
-const FAULTS: [Fault; 17] = [
+const FAULTS: [Fault; 21] = [
     Fault::Word,
     Fault::Room,
     Fault::Answer,
@@ -54,6 +61,10 @@ const FAULTS: [Fault; 17] = [
     Fault::PastSnapshot,
     Fault::Length,
     Fault::ReadWord,
+    Fault::AppliedWord,
+    Fault::AppliedByte,
+    Fault::AppliedLength,
+    Fault::AppliedRefusal,
 ];
 
 struct Faulty(Option<Fault>);
@@ -136,6 +147,27 @@ impl Subject for Faulty {
             Some(Fault::Byte) => bump(snapshot.inner_mut().first_mut(), |byte| byte ^ 1),
             Some(Fault::PastSnapshot) => bump(snapshot.all_mut().get_mut(past), |byte| byte ^ 1),
             Some(Fault::Length) => bump(length.inner_mut().first_mut(), |word| word ^ 8),
+            _ => {}
+        }
+        answer
+    }
+
+    fn apply(&mut self, number: u64, call: &Call, round: &mut Round) -> u64 {
+        let answer = Library.apply(number, call, round);
+        let done = answer == 0 && call.step == Step::Leave;
+        match self.0 {
+            Some(Fault::AppliedWord) if done => {
+                bump(round.board.inner_mut().get_mut(17), |word| word ^ 1);
+            }
+            Some(Fault::AppliedByte) if done => {
+                bump(round.after.inner_mut().last_mut(), |byte| byte ^ 1);
+            }
+            Some(Fault::AppliedLength) if done => {
+                bump(round.results.inner_mut().last_mut(), |word| word ^ 8);
+            }
+            Some(Fault::AppliedRefusal) if answer == 13 => {
+                bump(round.board.inner_mut().first_mut(), |word| word ^ 1);
+            }
             _ => {}
         }
         answer

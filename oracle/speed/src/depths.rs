@@ -39,6 +39,8 @@ impl Depths {
             self.note("a write", || room.write());
             return;
         }
+        let mut room = Room::of(board);
+        self.note("snapshot in, step, out", || room.round(call));
         let mut words = words(board);
         self.note(step_name(call.step), || {
             black_box(act(&mut words, call));

@@ -4,7 +4,7 @@ use std::hint::black_box;
 
 use board::{Board, write};
 use calls::{Call, bytes_of};
-use proved::export;
+use proved::{arguments, export};
 use roster::{SNAPSHOT_MOST, WORDS, exports};
 
 /// A step in place; its answer.
@@ -71,6 +71,24 @@ impl Room {
 
     /// Snapshot in, step, snapshot out.
     pub fn round(&mut self, call: &Call) {
+        let (first, second) = arguments(call);
+        let mut results = [0; 3];
+        let answer = exports::apply(
+            &self.snapshot,
+            call.step as u64,
+            first,
+            second,
+            &call.draws,
+            &mut self.words,
+            &mut self.bytes,
+            &mut results,
+        );
+        black_box(answer);
+        self.length = results[2];
+    }
+
+    /// The same by three calls.
+    pub fn three(&mut self, call: &Call) {
         self.read();
         black_box(act(&mut self.words, call));
         self.write();

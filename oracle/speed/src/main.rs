@@ -28,7 +28,7 @@ fn main() {
     depths::print();
 }
 
-/// The check, a read, a write, or the step of a code.
+/// The check, a read, a write, a tick from snapshot to snapshot, or the step of a code.
 fn spin(what: &str, shape: usize, turns: usize) {
     let board = SHAPES.get(shape).map_or_else(worst, |shape| base(*shape));
     let mut room = Room::of(&board);
@@ -36,9 +36,16 @@ fn spin(what: &str, shape: usize, turns: usize) {
         "check" => Room::check,
         "read" => Room::read,
         "write" => Room::write,
+        "round" => return spin_round(shape, turns),
         code => return spin_step(code, shape, turns),
     };
     (0..turns).for_each(|_| act(&mut room));
+}
+
+fn spin_round(shape: usize, turns: usize) {
+    let at = situation(SHAPES[shape], Step::Tick);
+    let mut room = Room::of(&at.board);
+    (0..turns).for_each(|_| room.round(&at.call));
 }
 
 fn spin_step(code: &str, shape: usize, turns: usize) {

@@ -3,7 +3,7 @@
 use std::hint::black_box;
 
 use board::{Board, write};
-use calls::{bytes_of, step_name};
+use calls::{Call, bytes_of, step_name};
 use plain::Step;
 use roster::exports;
 
@@ -16,9 +16,9 @@ pub fn print() {
     for shape in SHAPES {
         println!("\n### {shape}\n");
         println!(
-            "| step | the step less the check | Rust | ratio | snapshot in, step, out | Rust | ratio |"
+            "| step | the step less the check | Rust | ratio | snapshot in, step, out | by three calls | Rust | ratio |"
         );
-        println!("|---|--:|--:|--:|--:|--:|--:|");
+        println!("|---|--:|--:|--:|--:|--:|--:|--:|");
         steps().for_each(|step| print_step(&situation(shape, step)));
     }
     print_checks();
@@ -41,7 +41,10 @@ fn marked(step: Step) -> String {
 /// Both sides leave the same snapshot: they are timed at the same work.
 fn assert_agree(at: &Situation) {
     let mut room = Room::of(&at.board);
+    room.three(&at.call);
+    let three = room.written().to_vec();
     room.round(&at.call);
+    assert!(room.written() == three, "one call differs from three");
     let mut out = Vec::new();
     rand::lend(&at.call.draws);
     round_once_in_maps(&bytes_of(&write(&at.board)), at, &mut out);
@@ -51,12 +54,13 @@ fn assert_agree(at: &Situation) {
 fn print_step(at: &Situation) {
     assert_agree(at);
     let (ours, rust) = (in_place(at), in_maps(at));
-    let (round, rust_round) = (round(at), round_in_maps(at));
+    let (one, three) = (round(at, Room::round), round(at, Room::three));
+    let rust_round = round_in_maps(at);
     println!(
-        "| {} | {ours:.0} | {rust:.0} | {:.2} | {round:.0} | {rust_round:.0} | {:.2} |",
+        "| {} | {ours:.0} | {rust:.0} | {:.2} | {one:.0} | {three:.0} | {rust_round:.0} | {:.2} |",
         marked(at.call.step),
         ours / rust,
-        round / rust_round
+        one / rust_round
     );
 }
 
@@ -88,11 +92,11 @@ fn in_maps(at: &Situation) -> f64 {
     )
 }
 
-fn round(at: &Situation) -> f64 {
+fn round(at: &Situation, act: fn(&mut Room, &Call)) -> f64 {
     time(
         &mut Room::of(&at.board),
         |_| (),
-        |room| room.round(&at.call),
+        |room| act(room, &at.call),
     )
 }
 
