@@ -125,6 +125,9 @@ pub fn open(ws: &mut [u64], j: usize, shard: ShardId)
         return;
     }
     committees::open(ws, n, shard);
+    if n == j {
+        return;
+    }
     replace(ws, n, j, shard);
 }
 
