@@ -1,4 +1,5 @@
 // The keepers of a merge join the parent, by id.
+use board::committees;
 use board::layout::MOST_MACHINES;
 use board::layout::MOST_SEATS;
 use board::machines;
@@ -21,7 +22,7 @@ ghost use Rattle.board.specs.Held.{Holds, noSeat};
 ghost use Rattle.arriving.specs.Coming.{reshapeIn, MayCome};
 
 // The keeper of seat k, if it is seated on a child, moves to the parent with the seat's ready and its own stamp; others are passed over.
-fn rejoin(board: &mut [u64], i: usize, target: ShardId, k: usize)
+fn rejoin(board: &mut [u64], near: usize, i: usize, target: ShardId, k: usize)
     requires { ⌜ (length (now board) ≡ boardSize) × (i < mostReshapes) × (target .0 ≤ lastTarget) × (k < mostSeats) ⌝ }
     ensures { λ _. ⌜ ((b : Board) → Holds (now (board .entry)) b → wellFormed b ≡ true → i < length (b .reshapes) → isTarget (target .0) ≡ true → k < length (reshapeIn i b .seats) →
         MayCome (target .0) (getD (reshapeIn i b .seats) k noSeat .key) b →
@@ -39,7 +40,7 @@ fn rejoin(board: &mut [u64], i: usize, target: ShardId, k: usize)
     if !(on_left | on_right) {
         return;
     }
-    arriving::put_on(board, row, target, p.kept_on(target, seat.ready));
+    arriving::put_on(board, near, row, target, p.kept_on(target, seat.ready));
 }
 
 // All keepers, where the parent's committee is empty.
@@ -49,10 +50,11 @@ pub fn rejoin_all(board: &mut [u64], i: usize, target: ShardId)
         table.at (target .0) (b .committees) ≡ some [] →
         Holds (now (board .exit)) (forAll (cut.rejoin (target .0) (reshapeIn i b .seats)) (keysOf (reshapeIn i b .seats)) b)) ⌝ }
 {
+    let near = committees::place_of(board, target);
     let n = steps::rows_within(seats::count(board, i), MOST_SEATS);
     let mut k: usize = 0;
     while k < n {
-        rejoin(board, i, target, k);
+        rejoin(board, near, i, target, k);
         k += 1;
     }
 }

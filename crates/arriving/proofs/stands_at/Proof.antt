@@ -1,30 +1,21 @@
+use Prim.Native.Nat.{_<_}
+use lib.ListN.{length}
+use mathlib.Core.Path.{sym, _∙_}
+use mathlib.Core.Bool.{false≢true}
+use native.Mathlib.Omega.{arith}
+use Rattle.rules.proofs.Tests.{eq-of}
 use borrow.Author.Needs.{needs}
 use Rattle.arriving.proofs.stands_at.Statement.{statement}
 use Rattle.arriving.proofs.stands_at.Tie as tie
-use Rattle.arriving.proofs.stands_at.Reads as reads
-use Rattle.arriving.proofs.stands_at.Lts as lts
-use Rattle.board.proofs.committees.count.Reads as count-reads
-use Rattle.board.proofs.committees.shard_at.Reads as shard-at-reads
 
--- src/lib.rt:35:9
 returns : tie.Need-returns
-returns c = ?
+returns c = (λ q. absurd (false≢true q), λ b h q. absurd (false≢true q))
 
--- src/lib.rt:37:8
-count-requires : tie.Need-count-requires
-count-requires c κs = search needs
-
--- src/lib.rt:38:9
 returns-2 : tie.Need-returns-2
-returns-2 c = ?
+returns-2 c = (λ q. absurd (false≢true q), λ b h q. absurd (false≢true q))
 
--- src/lib.rt:40:9
-shard-at-requires : tie.Need-shard-at-requires
-shard-at-requires c κs = search needs
-
--- src/lib.rt:29:1
 returns-3 : tie.Need-returns-3
-returns-3 c = ?
+returns-3 c = (λ q. c .before .before .before .before .before .if1 .left, λ b h q. let l : c .before .before .before .before .before .before .before .args .near < length (b .committees) = omega (arith, c .before .before .before .before .count .ensures b h, c .before .before .before .if2 .left) in (l, sym (c .before .before .shard-at .ensures b h l) ∙ eq-of _ _ q))
 
 pub stands-at-spec : {M : Type 1} → statement M
-stands-at-spec = tie.close (tie.spec returns count-requires returns-2 shard-at-requires returns-3)
+stands-at-spec = tie.close (tie.spec returns (λ c κs. search needs) returns-2 (λ c κs. search needs) returns-3)
