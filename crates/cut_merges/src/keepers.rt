@@ -22,6 +22,7 @@ ghost use Rattle.board.specs.Held.{Holds, noSeat};
 ghost use Rattle.arriving.specs.Coming.{reshapeIn, MayCome};
 
 // The keeper of seat k, if it is seated on a child, moves to the parent with the seat's ready and its own stamp; others are passed over.
+// The parent's committee is looked for at row near first, the keeper from row `from` on; its row is told, for the next keeper.
 fn rejoin(board: &mut [u64], near: usize, from: usize, i: usize, target: ShardId, k: usize) -> usize
     requires { ⌜ (length (now board) ≡ boardSize) × (i < mostReshapes) × (target .0 ≤ lastTarget) × (k < mostSeats) ⌝ }
     ensures { λ _. ⌜ ((b : Board) → Holds (now (board .entry)) b → wellFormed b ≡ true → i < length (b .reshapes) → isTarget (target .0) ≡ true → k < length (reshapeIn i b .seats) →

@@ -28,6 +28,7 @@ ghost use Rattle.arriving.specs.Coming.{reshapeIn, MayCome};
 ghost use Rattle.cut_splits.specs.Settled.{childOf, halfOf, turnOf};
 
 // One seated on the target moves; one that observes and has a seat is seated, stamped now; others are passed over.
+// The child's committee is looked for at row near first.
 fn settle(
     board: &mut [u64],
     near: usize,

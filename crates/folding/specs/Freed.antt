@@ -7,6 +7,6 @@ use Rattle.rules.specs.Table.{Table}
 use Rattle.tables.specs.Rows.{insertAt, removeAt}
 use Rattle.board.specs.Held.{noCommittee}
 
--- the row at j taken out, and the one at k twice: the first of the two is free
+-- the row at j taken out, and the one at k twice: one of the two is free
 abbrev pub freed : ℕ → ℕ → Table (List Id) → Table (List Id)
 freed j k t = insertAt (removeAt t j) k (getD t k noCommittee)

@@ -20,7 +20,7 @@ ghost use Rattle.folding.specs.Freed.{freed};
 
 // ---- one row over another
 
-// The n words at `from` are written at `to`, which is behind them or past them.
+// The n words at `from` are written at `to` too: the place is before them, or past them all.
 fn copy_words(ws: &mut [u64], from: usize, to: usize, n: usize)
     requires { ⌜ (from + n ≤ length (now ws)) × (to + n ≤ length (now ws)) × (from < to → from + n ≤ to) ⌝ }
     ensures { λ _. ⌜ now (ws .exit) ≡ paste (now (ws .entry)) to (drop from (now (ws .entry))) n ⌝ }
