@@ -1,10 +1,13 @@
 // What both cuts share: a machine that comes to a new shard, and the records of those who have a seat.
+use board::committees;
+use board::layout::MOST_COMMITTEES;
 use board::layout::MOST_MACHINES;
 use board::layout::MOST_SEATS;
 use board::machines;
 use reshapes::seats;
 use types::Place;
 use types::ShardId;
+use types::ValidatorId;
 ghost use mathlib.Core.Path.{_≡_};
 ghost use mathlib.Core.List.{[], _∷_};
 ghost use mathlib.Core.Bool.{true};
@@ -12,23 +15,105 @@ ghost use Prim.Native.Nat.{_<_};
 ghost use lib.ListN.{length, getD};
 ghost use Rattle.rules.specs.Lists.{every};
 ghost use Rattle.rules.specs.Table.{stands, keysOf};
-ghost use Rattle.rules.specs.Board.{Board, mostMachines, mostReshapes};
+ghost use Rattle.rules.specs.Board.{Board, mostMachines, mostCommittees, mostReshapes};
 ghost use Rattle.rules.specs.WellFormed.{wellFormed};
-ghost use Rattle.rules.specs.Moves.{mayJoin, putOn};
+ghost use Rattle.rules.specs.Moves.{join, mayJoin, putOn};
+ghost use Rattle.tables.specs.Rows.{Rising, keyOf};
 ghost use Rattle.board.specs.Layout.{boardSize};
-ghost use Rattle.board.specs.Held.{Holds, noMachine};
+ghost use Rattle.board.specs.Held.{Holds, noMachine, noCommittee};
+ghost use Rattle.rows.specs.Found.{Found};
 ghost use Rattle.arriving.specs.Coming.{reshapeIn};
 
-// The machine at a row gets a new place, and joins the shard.
-pub fn put_on(board: &mut [u64], row: usize, shard: ShardId, place: Place)
+// ---- a machine comes
+
+// The shard's committee is at row near.
+fn stands_at(board: &[u64], near: usize, shard: ShardId) -> bool
+    requires { ⌜ length (now board) ≡ boardSize ⌝ }
+    ensures { λ r. ⌜ (r ≡ true → near < mostCommittees) × ((b : Board) → Holds (now (board .entry)) b → r ≡ true →
+        (near < length (b .committees)) × (getD (b .committees) near noCommittee .key ≡ shard .0)) ⌝ }
+{
+    if MOST_COMMITTEES <= near {
+        return false;
+    }
+    if committees::count(board) <= near {
+        return false;
+    }
+    let there = committees::shard_at(board, near);
+    there.0 == shard.0
+}
+
+// A member more; the committee is looked for at row near first.
+fn join_near(board: &mut [u64], near: usize, shard: ShardId, id: ValidatorId)
+    requires { ⌜ length (now board) ≡ boardSize ⌝ }
+    ensures { λ _. ⌜ ((b : Board) → Holds (now (board .entry)) b → Rising keyOf (b .committees) → mayJoin (shard .0) (id .0 ∷ []) b ≡ true →
+        Holds (now (board .exit)) (join (shard .0) (id .0) b)) ⌝ }
+{
+    if stands_at(board, near, shard) {
+        committees::push_member(board, near, id);
+        return;
+    }
+    pool::join(board, shard, id);
+}
+
+// The machine at a row gets a new place, and joins the shard, whose committee is looked for at row near first.
+pub fn put_on(board: &mut [u64], near: usize, row: usize, shard: ShardId, place: Place)
     requires { ⌜ (length (now board) ≡ boardSize) × (row < mostMachines) ⌝ }
     ensures { λ _. ⌜ ((b : Board) → Holds (now (board .entry)) b → wellFormed b ≡ true → row < length (b .machines) → mayJoin (shard .0) (getD (b .machines) row noMachine .key ∷ []) b ≡ true →
         Holds (now (board .exit)) (putOn (shard .0) (λ q. place) (getD (b .machines) row noMachine .key) b)) ⌝ }
 {
     let m = machines::at(board, row);
     pool::put_place(board, row, place);
-    pool::join(board, shard, m.id);
+    join_near(board, near, shard, m.id);
 }
+
+// ---- a machine's row, by a guess
+
+// Where the machine may stand: the first row from `from` on that has no smaller id.
+fn guess(board: &[u64], from: usize, id: ValidatorId) -> usize
+    requires { ⌜ length (now board) ≡ boardSize ⌝ }
+{
+    let n = steps::rows_within(machines::count(board), MOST_MACHINES);
+    let mut i = from;
+    while i < n {
+        let machine = machines::at(board, i);
+        let there = machine.id;
+        if id.0 <= there.0 {
+            return i;
+        }
+        i += 1;
+    }
+    i
+}
+
+// The machine is at row i.
+fn is_at(board: &[u64], i: usize, id: ValidatorId) -> bool
+    requires { ⌜ length (now board) ≡ boardSize ⌝ }
+    ensures { λ r. ⌜ ((b : Board) → Holds (now (board .entry)) b → r ≡ true → (i < length (b .machines)) × (getD (b .machines) i noMachine .key ≡ id .0)) ⌝ }
+{
+    if MOST_MACHINES <= i {
+        return false;
+    }
+    if machines::count(board) <= i {
+        return false;
+    }
+    let machine = machines::at(board, i);
+    let there = machine.id;
+    there.0 == id.0
+}
+
+// The row of the machine, as `rows::machine_row` tells it; where ids are asked in order, it is soon found after the last one's.
+pub fn row_from(board: &[u64], from: usize, id: ValidatorId) -> usize
+    requires { ⌜ length (now board) ≡ boardSize ⌝ }
+    ensures { λ r. ⌜ ((b : Board) → Holds (now (board .entry)) b → wellFormed b ≡ true → Found mostMachines (id .0) noMachine (b .machines) r) ⌝ }
+{
+    let i = guess(board, from, id);
+    if is_at(board, i, id) {
+        return i;
+    }
+    rows::machine_row(board, id)
+}
+
+// ---- those who have a seat
 
 // Every machine that has a seat in the reshape at i has a record.
 pub fn seats_recorded(board: &[u64], i: usize) -> bool
@@ -37,10 +122,12 @@ pub fn seats_recorded(board: &[u64], i: usize) -> bool
         r ≡ every (λ x. stands x (b .machines)) (keysOf (reshapeIn i b .seats))) ⌝ }
 {
     let n = steps::rows_within(seats::count(board, i), MOST_SEATS);
+    let mut from: usize = 0;
     let mut k: usize = 0;
     while k < n {
         let seat = seats::at(board, i, k);
-        if MOST_MACHINES <= rows::machine_row(board, seat.id) {
+        from = row_from(board, from, seat.id);
+        if MOST_MACHINES <= from {
             return false;
         }
         k += 1;

@@ -1,4 +1,5 @@
 // The keepers of a merge join the parent, by id.
+use board::committees;
 use board::layout::MOST_MACHINES;
 use board::layout::MOST_SEATS;
 use board::machines;
@@ -21,25 +22,27 @@ ghost use Rattle.board.specs.Held.{Holds, noSeat};
 ghost use Rattle.arriving.specs.Coming.{reshapeIn, MayCome};
 
 // The keeper of seat k, if it is seated on a child, moves to the parent with the seat's ready and its own stamp; others are passed over.
-fn rejoin(board: &mut [u64], i: usize, target: ShardId, k: usize)
+// The parent's committee is looked for at row near first, the keeper from row `from` on; its row is told, for the next keeper.
+fn rejoin(board: &mut [u64], near: usize, from: usize, i: usize, target: ShardId, k: usize) -> usize
     requires { ⌜ (length (now board) ≡ boardSize) × (i < mostReshapes) × (target .0 ≤ lastTarget) × (k < mostSeats) ⌝ }
     ensures { λ _. ⌜ ((b : Board) → Holds (now (board .entry)) b → wellFormed b ≡ true → i < length (b .reshapes) → isTarget (target .0) ≡ true → k < length (reshapeIn i b .seats) →
         MayCome (target .0) (getD (reshapeIn i b .seats) k noSeat .key) b →
         Holds (now (board .exit)) (cut.rejoin (target .0) (reshapeIn i b .seats) (getD (reshapeIn i b .seats) k noSeat .key) b)) ⌝ }
 {
     let seat = seats::at(board, i, k);
-    let row = rows::machine_row(board, seat.id);
+    let row = arriving::row_from(board, from, seat.id);
     if MOST_MACHINES <= row {
-        return;
+        return from;
     }
     let machine = machines::at(board, row);
     let p = machine.place;
     let on_left = p.is_seated_on(target.left());
     let on_right = p.is_seated_on(target.right());
     if !(on_left | on_right) {
-        return;
+        return row;
     }
-    arriving::put_on(board, row, target, p.kept_on(target, seat.ready));
+    arriving::put_on(board, near, row, target, p.kept_on(target, seat.ready));
+    row
 }
 
 // All keepers, where the parent's committee is empty.
@@ -49,10 +52,12 @@ pub fn rejoin_all(board: &mut [u64], i: usize, target: ShardId)
         table.at (target .0) (b .committees) ≡ some [] →
         Holds (now (board .exit)) (forAll (cut.rejoin (target .0) (reshapeIn i b .seats)) (keysOf (reshapeIn i b .seats)) b)) ⌝ }
 {
+    let near = committees::place_of(board, target);
     let n = steps::rows_within(seats::count(board, i), MOST_SEATS);
+    let mut from: usize = 0;
     let mut k: usize = 0;
     while k < n {
-        rejoin(board, i, target, k);
+        from = rejoin(board, near, from, i, target, k);
         k += 1;
     }
 }

@@ -1,5 +1,6 @@
 // A child's committee filled: its half in order, then the seats of its cohort by id.
 use super::halves;
+use board::committees;
 use board::layout::MOST_MACHINES;
 use board::layout::MOST_SEATS;
 use board::machines;
@@ -27,7 +28,15 @@ ghost use Rattle.arriving.specs.Coming.{reshapeIn, MayCome};
 ghost use Rattle.cut_splits.specs.Settled.{childOf, halfOf, turnOf};
 
 // One seated on the target moves; one that observes and has a seat is seated, stamped now; others are passed over.
-fn settle(board: &mut [u64], i: usize, target: ShardId, child: ShardId, id: ValidatorId)
+// The child's committee is looked for at row near first.
+fn settle(
+    board: &mut [u64],
+    near: usize,
+    i: usize,
+    target: ShardId,
+    child: ShardId,
+    id: ValidatorId,
+)
     requires { ⌜ (length (now board) ≡ boardSize) × (i < mostReshapes) ⌝ }
     ensures { λ _. ⌜ ((b : Board) → Holds (now (board .entry)) b → wellFormed b ≡ true → i < length (b .reshapes) → child .0 ≢ target .0 → MayCome (child .0) (id .0) b →
         Holds (now (board .exit)) (cut.settle (target .0) (child .0) (reshapeIn i b .seats) (id .0) b)) ⌝ }
@@ -39,7 +48,7 @@ fn settle(board: &mut [u64], i: usize, target: ShardId, child: ShardId, id: Vali
     let machine = machines::at(board, row);
     let p = machine.place;
     if p.is_seated_on(target) {
-        arriving::put_on(board, row, child, p.moved_to(child));
+        arriving::put_on(board, near, row, child, p.moved_to(child));
         return;
     }
     let k = rows::seat_row(board, i, id);
@@ -52,12 +61,13 @@ fn settle(board: &mut [u64], i: usize, target: ShardId, child: ShardId, id: Vali
     let seat = seats::at(board, i, k);
     let epoch = settings::epoch(board);
     let placed = p.seated_from_watch(child, seat.ready, epoch);
-    arriving::put_on(board, row, child, placed);
+    arriving::put_on(board, near, row, child, placed);
 }
 
 // Turn k of the child: n are in its half.
 fn settle_next(
     board: &mut [u64],
+    near: usize,
     i: usize,
     target: ShardId,
     child: ShardId,
@@ -73,13 +83,13 @@ fn settle_next(
 {
     if k < n {
         let id = halves::half_at(board, i, right, k);
-        settle(board, i, target, child, id);
+        settle(board, near, i, target, child, id);
         return;
     }
     let seat = seats::at(board, i, k - n);
     let other = seat.child;
     if other.0 == child.0 {
-        settle(board, i, target, child, seat.id);
+        settle(board, near, i, target, child, seat.id);
     }
 }
 
@@ -101,11 +111,12 @@ pub fn settle_child(board: &mut [u64], i: usize, target: ShardId, right: bool)
         Holds (now (board .exit)) (settleChild (target .0) (childOf right (target .0)) (halfOf right (reshapeIn i b)) (reshapeIn i b .seats) b)) ⌝ }
 {
     let child = child_of(target, right);
+    let near = committees::place_of(board, child);
     let n = halves::half_count(board, i, right);
     let total = n + steps::rows_within(seats::count(board, i), MOST_SEATS);
     let mut k: usize = 0;
     while k < total {
-        settle_next(board, i, target, child, right, n, k);
+        settle_next(board, near, i, target, child, right, n, k);
         k += 1;
     }
 }

@@ -68,8 +68,11 @@ module _ (b : Board) (ok : wellFormed b ≡ true) (after : List ℕ) (s : Shard)
 
 -- ---- boards on the way
 
+pub good-closed : {b : Board} (s : Shard) → Good b → Good (onCommittees (remove s) b)
+good-closed s h = on-committees h (remove s) (Rows-remove s (h .committees))
+
 pub good-end : {b : Board} (s : Shard) → Good b → Good (endShard s b)
-good-end s h = let g = on-committees h (remove s) (Rows-remove s (h .committees)) in on-rotations g (dropRotations s) (Rota-dropRotations s (g .rotations))
+good-end s h = let g = good-closed s h in on-rotations g (dropRotations s) (Rota-dropRotations s (g .rotations))
 
 module _ {b : Board} (h : Good b) (s : Shard) where
   pub good-emptied : isShard s ≡ true → length (put s [] (b .committees)) ≤ mostCommittees → Good (onCommittees (put s []) b)
@@ -115,7 +118,7 @@ module _ (t : Shard) (height : Height) (b : Board) (h : Good b) (f : fits (recas
 -- ---- a merge's family
 
 module _ (t : Shard) (height : Height) (b : Board) (f : fits (recast merge t height b) ≡ true) where
-  abbrev both-ended : Board
+  abbrev pub both-ended : Board
   both-ended = endShard (rightOf t) (endShard (leftOf t) b)
 
   pub parent-fits : fits (beginShard height t both-ended) ≡ true

@@ -10,7 +10,7 @@ use types::ShardId;
 ghost use mathlib.Core.Path.{_≡_};
 ghost use mathlib.Core.List.{[]};
 ghost use mathlib.Core.Bool.{true};
-ghost use Prim.Native.Nat.{_≤_};
+ghost use Prim.Native.Nat.{_<_, _≤_};
 ghost use lib.ListN.{length};
 ghost use Rattle.types.specs.Numbers.{Height};
 ghost use Rattle.rules.specs.Table.{put, remove};
@@ -96,7 +96,7 @@ fn close_committee(board: &mut [u64], shard: ShardId)
     if MOST_COMMITTEES <= j {
         return;
     }
-    committees::close(board, j);
+    folding::close(board, j);
 }
 
 // Its committee and its rotations go.
@@ -124,7 +124,7 @@ fn empty_committee(board: &mut [u64], shard: ShardId)
     if MOST_COMMITTEES <= k {
         return;
     }
-    committees::open(board, k, shard);
+    folding::open(board, k, shard);
 }
 
 // The epoch is past its range on no well-formed board.
@@ -159,6 +159,32 @@ fn begin_shard(board: &mut [u64], shard: ShardId, height: BlockHeight)
     new_boundary(board, shard, height);
 }
 
+// ---- an old shard's committee for a new one's
+
+// The old shard's committee goes, and the new one, whose number is smaller, gets an empty one: in the same row, or before it.
+fn replace_committee(board: &mut [u64], old: ShardId, new: ShardId)
+    requires { ⌜ length (now board) ≡ boardSize ⌝ }
+    ensures { λ _. ⌜ ((b : Board) → Holds (now (board .entry)) b → wellFormed b ≡ true → new .0 < old .0 → length (put (new .0) [] (remove (old .0) (b .committees))) ≤ mostCommittees →
+        Holds (now (board .exit)) (onCommittees (λ t. put (new .0) [] (remove (old .0) t)) b)) ⌝ }
+{
+    let j = rows::committee_row(board, old);
+    if MOST_COMMITTEES <= j {
+        empty_committee(board, new);
+        return;
+    }
+    let own = rows::committee_row(board, new);
+    if own < MOST_COMMITTEES {
+        close_committee(board, old);
+        empty_committee(board, new);
+        return;
+    }
+    let k = committees::place_of(board, new);
+    if j < k {
+        return;
+    }
+    folding::replace(board, j, k, new);
+}
+
 // ---- the family
 
 // A split's target ends, and its children begin.
@@ -178,7 +204,9 @@ pub fn merge_family(board: &mut [u64], target: ShardId, height: BlockHeight)
     ensures { λ _. ⌜ ((b : Board) → Holds (now (board .entry)) b → wellFormed b ≡ true → isTarget (target .0) ≡ true → isWord (height .0) ≡ true →
         fits (recast merge (target .0) (height .0) b) ≡ true → Holds (now (board .exit)) (recastTables merge (target .0) (height .0) b)) ⌝ }
 {
-    end_shard(board, target.left());
-    end_shard(board, target.right());
-    begin_shard(board, target, height);
+    close_committee(board, target.right());
+    replace_committee(board, target.left(), target);
+    rotations::drop_of(board, target.left());
+    rotations::drop_of(board, target.right());
+    new_boundary(board, target, height);
 }

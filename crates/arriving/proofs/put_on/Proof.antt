@@ -8,9 +8,11 @@ use Rattle.arriving.proofs.put_on.Statement.{statement}
 use Rattle.arriving.proofs.put_on.Tie as tie
 
 returns : tie.Need-returns
-returns c = λ b h g l m.
+returns c =
+    λ b h g l m.
     let i = ap (λ (x : Machine). x .id .0) (c .before .before .before .before .before .before .before .before .at .ensures b h l) in
-    put-held _ b _ _ _ _ i (c .before .before .join .ensures _ (c .before .before .before .before .before .before .put-place .ensures b h (machines-rise b g) l) (placed-rise _ _ b (committees-rise b g)) (placed-may _ _ b _ _ (rw i m)))
+    put-held _ b _ _ _ _ i (c .before .before .join-near .ensures _ (c .before .before .before .before .before .before .put-place .ensures b h (machines-rise b g) l) (placed-rise _ _ b (committees-rise b g)) (placed-may _ _ b _ _ (rw i m)))
 
 pub put-on-spec : {M : Type 1} → statement M
-put-on-spec = tie.close (tie.spec (λ c κs. search needs) (λ c κs. search needs) (λ c κs. search needs) (λ c. search needs) returns)
+put-on-spec =
+    tie.close (tie.spec (λ c κs. search needs) (λ c κs. search needs) (λ c κs. search needs) (λ c. search needs) returns)

@@ -18,12 +18,12 @@ use Rattle.cut_merges.proofs.keepers.rejoin_all.Statement.{statement}
 use Rattle.cut_merges.proofs.keepers.rejoin_all.Tie as tie
 
 abbrev Inv-loop : tie.InvT-loop
-Inv-loop board₀ i target n k₀ board k = (k ≤ n) × (n ≤ mostSeats) × (length board ≡ length board₀)
+Inv-loop board₀ i target near n from₀ k₀ board from k = (k ≤ n) × (n ≤ mostSeats) × (length board ≡ length board₀)
     × ((b : Board) → Holds board₀ b → wellFormed b ≡ true → i < length (b .reshapes) → isTarget (target .0) ≡ true → at (target .0) (b .committees) ≡ some []
     → (n ≡ length (reshapeIn i b .seats)) × Joined (target .0) i b k board)
 
 abbrev μ-loop : tie.MeasureT-loop
-μ-loop board₀ i target n k₀ board k = n - k
+μ-loop board₀ i target near n from₀ k₀ board from k = n - k
 
 loop-holds : tie.Need-loop-holds Inv-loop μ-loop
 loop-holds c = (
@@ -33,11 +33,11 @@ loop-holds c = (
   λ b h ok l tg e.
       let f = row-fit b ok _ l in
       let n = c .before .count .ensures b h l in
-      (c .rows-within .ensures .1 (rw n (f .seats .room)) ∙ n, none-joined _ _ b _ h (good-of b ok) (family (c .before .before .before .before .args .target .0) tg .target) e (f .seats .room)),
+      (c .rows-within .ensures .1 (rw n (f .seats .room)) ∙ n, none-joined _ _ b _ h (good-of b ok) (family (c .before .before .before .before .before .before .args .target .0) tg .target) e (f .seats .room)),
 )
 
 rejoin-requires : tie.Need-rejoin-requires Inv-loop μ-loop
-rejoin-requires c κs = (c .before .before .loop .inv .2 ∙ c .before .before .before .before .before .before .before .pre .0, c .before .before .before .before .before .before .before .pre .1, c .before .before .before .before .before .before .before .pre .2, omega (arith, c .before .before .loop .inv .1, c .before .loop-test .taken))
+rejoin-requires c κs = (c .before .before .loop .inv .2 ∙ c .before .before .before .before .before .before .before .before .before .pre .0, c .before .before .before .before .before .before .before .before .before .pre .1, c .before .before .before .before .before .before .before .before .before .pre .2, omega (arith, c .before .before .loop .inv .1, c .before .loop-test .taken))
 
 loop-again : tie.Need-loop-again Inv-loop μ-loop
 loop-again c = let a = c .before .before .before .before .before .loop in (
@@ -45,7 +45,7 @@ loop-again c = let a = c .before .before .before .before .before .loop in (
   a .inv .1,
   c .before .before .rejoin .kept .0 ∙ a .inv .2,
   λ b h ok l tg e.
-      let g = c .before .before .before .before .before .before .before .before .before .before .args in
+      let g = c .before .before .before .before .before .before .before .before .before .before .before .before .args in
       let t = a .inv .3 b h ok l tg e in
       let u = t .1 in
       let q : a .k < length (reshapeIn (g .i) b .seats) = omega (arith, t .0, c .before .before .before .before .loop-test .taken) in
@@ -66,6 +66,7 @@ rejoin-all-spec =
     (tie.spec
     Inv-loop
     μ-loop
+    (λ c κs. search needs)
     (λ c κs. search needs)
     (λ c κs. search needs)
     loop-holds
