@@ -21,7 +21,6 @@ ghost use Rattle.rules.specs.Moves.{join, mayJoin, putOn};
 ghost use Rattle.tables.specs.Rows.{Rising, keyOf};
 ghost use Rattle.board.specs.Layout.{boardSize};
 ghost use Rattle.board.specs.Held.{Holds, noMachine, noCommittee};
-ghost use Rattle.rows.specs.Found.{Found};
 ghost use Rattle.arriving.specs.Coming.{reshapeIn};
 
 // ---- a machine comes
@@ -66,53 +65,6 @@ pub fn put_on(board: &mut [u64], near: usize, row: usize, shard: ShardId, place:
     join_near(board, near, shard, m.id);
 }
 
-// ---- a machine's row, by a guess
-
-// Where the machine may stand: the first row from `from` on that has no smaller id.
-fn guess(board: &[u64], from: usize, id: ValidatorId) -> usize
-    requires { ⌜ length (now board) ≡ boardSize ⌝ }
-{
-    let n = steps::rows_within(machines::count(board), MOST_MACHINES);
-    let mut i = from;
-    while i < n {
-        let machine = machines::at(board, i);
-        let there = machine.id;
-        if id.0 <= there.0 {
-            return i;
-        }
-        i += 1;
-    }
-    i
-}
-
-// The machine is at row i.
-fn is_at(board: &[u64], i: usize, id: ValidatorId) -> bool
-    requires { ⌜ length (now board) ≡ boardSize ⌝ }
-    ensures { λ r. ⌜ ((b : Board) → Holds (now (board .entry)) b → r ≡ true → (i < length (b .machines)) × (getD (b .machines) i noMachine .key ≡ id .0)) ⌝ }
-{
-    if MOST_MACHINES <= i {
-        return false;
-    }
-    if machines::count(board) <= i {
-        return false;
-    }
-    let machine = machines::at(board, i);
-    let there = machine.id;
-    there.0 == id.0
-}
-
-// The row of the machine, as `rows::machine_row` tells it; where ids are asked in order, it is soon found after the last one's.
-pub fn row_from(board: &[u64], from: usize, id: ValidatorId) -> usize
-    requires { ⌜ length (now board) ≡ boardSize ⌝ }
-    ensures { λ r. ⌜ ((b : Board) → Holds (now (board .entry)) b → wellFormed b ≡ true → Found mostMachines (id .0) noMachine (b .machines) r) ⌝ }
-{
-    let i = guess(board, from, id);
-    if is_at(board, i, id) {
-        return i;
-    }
-    rows::machine_row(board, id)
-}
-
 // ---- those who have a seat
 
 // Every machine that has a seat in the reshape at i has a record.
@@ -122,12 +74,10 @@ pub fn seats_recorded(board: &[u64], i: usize) -> bool
         r ≡ every (λ x. stands x (b .machines)) (keysOf (reshapeIn i b .seats))) ⌝ }
 {
     let n = steps::rows_within(seats::count(board, i), MOST_SEATS);
-    let mut from: usize = 0;
     let mut k: usize = 0;
     while k < n {
         let seat = seats::at(board, i, k);
-        from = row_from(board, from, seat.id);
-        if MOST_MACHINES <= from {
+        if MOST_MACHINES <= rows::machine_row(board, seat.id) {
             return false;
         }
         k += 1;

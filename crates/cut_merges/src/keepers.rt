@@ -22,27 +22,26 @@ ghost use Rattle.board.specs.Held.{Holds, noSeat};
 ghost use Rattle.arriving.specs.Coming.{reshapeIn, MayCome};
 
 // The keeper of seat k, if it is seated on a child, moves to the parent with the seat's ready and its own stamp; others are passed over.
-// The parent's committee is looked for at row near first, the keeper from row `from` on; its row is told, for the next keeper.
-fn rejoin(board: &mut [u64], near: usize, from: usize, i: usize, target: ShardId, k: usize) -> usize
+// The parent's committee is looked for at row near first.
+fn rejoin(board: &mut [u64], near: usize, i: usize, target: ShardId, k: usize)
     requires { ⌜ (length (now board) ≡ boardSize) × (i < mostReshapes) × (target .0 ≤ lastTarget) × (k < mostSeats) ⌝ }
     ensures { λ _. ⌜ ((b : Board) → Holds (now (board .entry)) b → wellFormed b ≡ true → i < length (b .reshapes) → isTarget (target .0) ≡ true → k < length (reshapeIn i b .seats) →
         MayCome (target .0) (getD (reshapeIn i b .seats) k noSeat .key) b →
         Holds (now (board .exit)) (cut.rejoin (target .0) (reshapeIn i b .seats) (getD (reshapeIn i b .seats) k noSeat .key) b)) ⌝ }
 {
     let seat = seats::at(board, i, k);
-    let row = arriving::row_from(board, from, seat.id);
+    let row = rows::machine_row(board, seat.id);
     if MOST_MACHINES <= row {
-        return from;
+        return;
     }
     let machine = machines::at(board, row);
     let p = machine.place;
     let on_left = p.is_seated_on(target.left());
     let on_right = p.is_seated_on(target.right());
     if !(on_left | on_right) {
-        return row;
+        return;
     }
     arriving::put_on(board, near, row, target, p.kept_on(target, seat.ready));
-    row
 }
 
 // All keepers, where the parent's committee is empty.
@@ -54,10 +53,9 @@ pub fn rejoin_all(board: &mut [u64], i: usize, target: ShardId)
 {
     let near = committees::place_of(board, target);
     let n = steps::rows_within(seats::count(board, i), MOST_SEATS);
-    let mut from: usize = 0;
     let mut k: usize = 0;
     while k < n {
-        from = rejoin(board, near, from, i, target, k);
+        rejoin(board, near, i, target, k);
         k += 1;
     }
 }

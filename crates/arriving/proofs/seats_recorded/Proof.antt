@@ -17,12 +17,12 @@ use Rattle.arriving.proofs.seats_recorded.Statement.{statement}
 use Rattle.arriving.proofs.seats_recorded.Tie as tie
 
 abbrev Inv-loop : tie.InvT-loop
-Inv-loop board i n from₀ k₀ from k = (k ≤ n) × (n ≤ mostSeats)
+Inv-loop board i n k₀ k = (k ≤ n) × (n ≤ mostSeats)
     × ((b : Board) → Holds board b → wellFormed b ≡ true → i < length (b .reshapes)
     → (n ≡ length (reshapeIn i b .seats)) × (every (known b) (keysOf (reshapeIn i b .seats)) ≡ every (known b) (keysOf (drop k (reshapeIn i b .seats)))))
 
 abbrev μ-loop : tie.MeasureT-loop
-μ-loop board i n from₀ k₀ from k = n - k
+μ-loop board i n k₀ k = n - k
 
 loop-holds : tie.Need-loop-holds Inv-loop μ-loop
 loop-holds c = (
@@ -41,7 +41,7 @@ returns c = λ b h ok l.
     let seats = reshapeIn (c .before .before .before .before .before .before .before .before .args .i) b .seats in
     let m : a .k < length seats = omega (arith, t .0, c .before .before .before .loop-test .taken) in
     let i = ap (λ (e : Entry Seat). e .key) (c .before .before .at .ensures b h l m) in
-    one-unknown b ok _ _ _ _ _ (keys-here (λ v. true) seats (a .k) noSeat m refl) i _ (c .before .row-from .ensures b h ok) (t .1) (c .if1 .taken)
+    one-unknown b ok _ _ _ _ _ (keys-here (λ v. true) seats (a .k) noSeat m refl) i _ (c .before .machine-row .ensures b h ok) (t .1) (c .if1 .taken)
 
 loop-again : tie.Need-loop-again Inv-loop μ-loop
 unfolding keysOf
@@ -53,7 +53,7 @@ loop-again c = let a = c .before .before .before .before .loop in (
       let seats = reshapeIn (c .before .before .before .before .before .before .before .before .args .i) b .seats in
       let m : a .k < length seats = omega (arith, t .0, c .before .before .before .loop-test .taken) in
       let i = ap (λ (e : Entry Seat). e .key) (c .before .before .at .ensures b h l m) in
-      (t .0, one-known b ok _ _ _ _ _ (keys-here (λ v. true) seats (a .k) noSeat m refl) i _ (c .before .row-from .ensures b h ok) (t .1) (c .if1 .left)),
+      (t .0, one-known b ok _ _ _ _ _ (keys-here (λ v. true) seats (a .k) noSeat m refl) i _ (c .before .machine-row .ensures b h ok) (t .1) (c .if1 .left)),
 )
 
 returns-2 : tie.Need-returns-2 Inv-loop μ-loop

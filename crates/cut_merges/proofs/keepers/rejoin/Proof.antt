@@ -13,12 +13,12 @@ use Rattle.cut_merges.proofs.keepers.rejoin.Tie as tie
 returns : tie.Need-returns
 returns c = λ b h ok l tg m z.
     let i = ap (λ (e : Entry Seat). e .key) (c .before .before .before .at .ensures b h l m) in
-    unknown b ok _ _ _ (rw i at (c .before .row-from .ensures b h ok)) _ _ (c .if1 .taken) h
+    unknown b ok _ _ _ (rw i at (c .before .machine-row .ensures b h ok)) _ _ (c .if1 .taken) h
 
 returns-2 : tie.Need-returns-2
 returns-2 c = λ b h ok l tg m z.
     let i = ap (λ (e : Entry Seat). e .key) (c .before .before .before .before .before .before .before .before .before .before .at .ensures b h l m) in
-    let f = rw i at (c .before .before .before .before .before .before .before .before .row-from .ensures b h ok) in
+    let f = rw i at (c .before .before .before .before .before .before .before .before .machine-row .ensures b h ok) in
     let r = c .before .before .before .before .before .before .before .if1 .left in
     let p = ap (λ (x : Machine). x .place) (c .before .before .before .before .before .at2 .ensures b h (f .inside r)) in
     let y = sym (on-child (c .before .before .before .before .before .before .before .before .before .before .before .before .before .args .target .0) (c .before .before .before .before .before .at2 .result .place) _ _ (rw (c .before .before .before .before .left .ensures) at (c .before .before .before .is-seated-on .ensures)) (rw (c .before .before .right .ensures) at (c .before .is-seated-on2 .ensures))) ∙ not-true _ (c .if2 .taken) in
@@ -28,7 +28,7 @@ returns-3 : tie.Need-returns-3
 returns-3 c = λ b h ok l tg m z.
     let s = c .before .before .before .before .before .before .before .before .before .before .before .before .before .before .before .at .ensures b h l m in
     let i = ap (λ (e : Entry Seat). e .key) s in
-    let f = rw i at (c .before .before .before .before .before .before .before .before .before .before .before .before .before .row-from .ensures b h ok) in
+    let f = rw i at (c .before .before .before .before .before .before .before .before .before .before .before .before .before .machine-row .ensures b h ok) in
     let r = c .before .before .before .before .before .before .before .before .before .before .before .before .if1 .left in
     let p = ap (λ (x : Machine). x .place) (c .before .before .before .before .before .before .before .before .before .before .at2 .ensures b h (f .inside r)) in
     let y = rw p at (sym (on-child (c .before .before .before .before .before .before .before .before .before .before .before .before .before .before .before .before .before .before .args .target .0) (c .before .before .before .before .before .before .before .before .before .before .at2 .result .place) _ _ (rw (c .before .before .before .before .before .before .before .before .before .left .ensures) at (c .before .before .before .before .before .before .before .before .is-seated-on .ensures)) (rw (c .before .before .before .before .before .before .before .right .ensures) at (c .before .before .before .before .before .before .is-seated-on2 .ensures))) ∙ not-false _ (c .before .before .before .before .before .if2 .left)) in

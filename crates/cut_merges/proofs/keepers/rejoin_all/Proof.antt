@@ -18,12 +18,12 @@ use Rattle.cut_merges.proofs.keepers.rejoin_all.Statement.{statement}
 use Rattle.cut_merges.proofs.keepers.rejoin_all.Tie as tie
 
 abbrev Inv-loop : tie.InvT-loop
-Inv-loop board₀ i target near n from₀ k₀ board from k = (k ≤ n) × (n ≤ mostSeats) × (length board ≡ length board₀)
+Inv-loop board₀ i target near n k₀ board k = (k ≤ n) × (n ≤ mostSeats) × (length board ≡ length board₀)
     × ((b : Board) → Holds board₀ b → wellFormed b ≡ true → i < length (b .reshapes) → isTarget (target .0) ≡ true → at (target .0) (b .committees) ≡ some []
     → (n ≡ length (reshapeIn i b .seats)) × Joined (target .0) i b k board)
 
 abbrev μ-loop : tie.MeasureT-loop
-μ-loop board₀ i target near n from₀ k₀ board from k = n - k
+μ-loop board₀ i target near n k₀ board k = n - k
 
 loop-holds : tie.Need-loop-holds Inv-loop μ-loop
 loop-holds c = (
