@@ -174,11 +174,12 @@ impl<S: Subject> Checker<S> {
         same("the snapshot of the one call", written, &after)?;
         let blank = vec![BLANK; whole.room - after.len()];
         same("the bytes past it", rest, &blank)?;
-        let cut = &before[..before.len() - 8 + past];
-        let (few, short) = (WORDS - 1 - past, SNAPSHOT_MOST - 1 - past);
-        self.unapplied(call, &Apply { words: few, ..whole }, 11)?;
-        self.unapplied(call, &Apply { room: short, ..whole }, 11)?;
-        self.unapplied(call, &Apply { bytes: cut, ..whole }, 13)?;
+        let words = WORDS - 1 - past;
+        self.unapplied(call, &Apply { words, ..whole }, 11)?;
+        let room = SNAPSHOT_MOST - 1 - past;
+        self.unapplied(call, &Apply { room, ..whole }, 11)?;
+        let bytes = &before[..before.len() - 8 + past];
+        self.unapplied(call, &Apply { bytes, ..whole }, 13)?;
         let number = if past == 0 { 0 } else { 15 + past as u64 };
         self.unapplied(call, &Apply { number, ..whole }, 15)
     }
