@@ -1,8 +1,8 @@
 -- What a step, the laying of its board and the read before them leave together.
-use Prim.Native.Nat.{ℕ, _≤_, _<_, _*_}
-use mathlib.Core.Path.{_≡_, refl, ap, sym, subst, _∙_}
+use Prim.Native.Nat.{ℕ, _≤_, _*_}
+use mathlib.Core.Path.{_≡_, ap, _∙_}
 use mathlib.Core.List.{List, [], _∷_, _++_}
-use mathlib.Core.Option.{Option, none, some}
+use mathlib.Core.Option.{some}
 use mathlib.Core.Bool.{true}
 use native.Mathlib.Omega.{arith}
 use lib.ListN.{length, take, drop, length-append}
@@ -26,7 +26,7 @@ use Rattle.packing.specs.Put.{Put}
 use Rattle.snapshot.specs.ReadAs.{ReadAs, notSnapshot, tooShort, readAs}
 use Rattle.snapshot.proofs.Writes.{held-long, held-bytes}
 use Rattle.steps.specs.Inner.{Steps}
-use Rattle.applying.specs.Applied.{mostBytes, ToldAs, StepTold, Applied, applied}
+use Rattle.applying.specs.Applied.{mostBytes, StepTold}
 
 -- what a step leaves of a well-formed board
 module _ (c : Call) (before after : List ℕ) (o : Outcome) (s : Steps (answerTo c) before after o) where

@@ -9,10 +9,10 @@ use borrow.Author.Tests.{leb-true, le-leb}
 use lib.ListN.{length, getD, take, drop, length-drop, take-append-drop, drop-of-length-le}
 use lib.Seq.{getD-drop, getD-take, take-at, take-all, drop-drop, length-take-le}
 use Rattle.types.specs.Numbers.{Id}
-use Rattle.rules.specs.Lists.{every, distinct}
+use Rattle.rules.specs.Lists.{distinct}
 use Rattle.rules.specs.Table.{entry}
 use Rattle.rules.specs.Board.{mostMembers}
-use Rattle.rules.specs.WellFormed.{isWord, isShard, goodIds, goodCommittee}
+use Rattle.rules.specs.WellFormed.{isShard, goodIds, goodCommittee}
 use Rattle.rules.specs.Snapshot.{section, committeeWords, readWords}
 use Rattle.rules.proofs.Tests.{and-parts, and-joins, all-parts, all-joins, every-none}
 use Rattle.tables.proofs.Ids.{id-rows}

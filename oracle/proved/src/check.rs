@@ -27,11 +27,26 @@ pub struct Checker<S> {
 }
 
 /// What a step from snapshot to snapshot is lent: bytes in, words and bytes of room, and the number of its step.
+#[derive(Clone, Copy)]
 struct Apply<'a> {
     number: u64,
     bytes: &'a [u8],
     words: usize,
     room: usize,
+}
+
+impl Apply<'_> {
+    /// The same with too few words, too few bytes, bytes that are no snapshot or no step's number, in turn; its answer.
+    fn refused(mut self, turn: usize) -> (Self, u64) {
+        let off = turn / 4 % 3;
+        match turn % 4 {
+            0 => self.words = WORDS - 1 - off,
+            1 => self.room = SNAPSHOT_MOST - 1 - off,
+            2 => self.bytes = &self.bytes[..self.bytes.len() - 1 - off],
+            _ => self.number = [0, 16, u64::MAX][off],
+        }
+        (self, [11, 11, 13, 15][turn % 4])
+    }
 }
 
 fn demand(holds: bool, why: impl FnOnce() -> String) -> Result<(), String> {
@@ -146,8 +161,8 @@ impl<S: Subject> Checker<S> {
         self.guarded("the step")
     }
 
-    /// Snapshot in, step, snapshot out in one call, on the board that stood there: what the three calls leave. Then with
-    /// too few words, too few bytes, bytes that are no snapshot, and no step's number: nothing is written.
+    /// Snapshot in, step, snapshot out in one call, on the board that stood there: what the three calls leave. Then the
+    /// same call so that it is refused: nothing is written.
     fn apply(&mut self, call: &Call, expected: &Expected) -> Result<(), String> {
         let (Some(before), Some(after)) = (pack(&expected.lent), &expected.snapshot) else {
             return Ok(());
@@ -174,13 +189,8 @@ impl<S: Subject> Checker<S> {
         same("the snapshot of the one call", written, &after)?;
         let blank = vec![BLANK; whole.room - after.len()];
         same("the bytes past it", rest, &blank)?;
-        let cut = &before[..before.len() - 8 + past];
-        let (few, short) = (WORDS - 1 - past, SNAPSHOT_MOST - 1 - past);
-        self.unapplied(call, &Apply { words: few, ..whole }, 11)?;
-        self.unapplied(call, &Apply { room: short, ..whole }, 11)?;
-        self.unapplied(call, &Apply { bytes: cut, ..whole }, 13)?;
-        let number = if past == 0 { 0 } else { 15 + past as u64 };
-        self.unapplied(call, &Apply { number, ..whole }, 15)
+        let (refused, answer) = whole.refused(after.len() / 8);
+        self.unapplied(call, &refused, answer)
     }
 
     /// A tick from bytes that a read refuses is refused as the read is.

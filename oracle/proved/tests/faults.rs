@@ -3,9 +3,7 @@
 
 use calls::{Call, Rng, any_series};
 use plain::{Outcome, Step};
-use proved::{
-    Case, Checker, Lent, Library, Loan, Round, Run, Subject, reproduction, smallest,
-};
+use proved::{Case, Checker, Lent, Library, Loan, Round, Run, Subject, reproduction, smallest};
 use roster::Board;
 
 #[derive(Clone, Copy, Debug, PartialEq, Eq)]

@@ -93,11 +93,7 @@ fn in_maps(at: &Situation) -> f64 {
 }
 
 fn round(at: &Situation, act: fn(&mut Room, &Call)) -> f64 {
-    time(
-        &mut Room::of(&at.board),
-        |_| (),
-        |room| act(room, &at.call),
-    )
+    time(&mut Room::of(&at.board), |_| (), |room| act(room, &at.call))
 }
 
 fn round_in_maps(at: &Situation) -> f64 {

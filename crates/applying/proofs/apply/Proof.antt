@@ -1,4 +1,4 @@
-use mathlib.Core.Path.{refl, ap, sym, _∙_}
+use mathlib.Core.Path.{refl, ap, sym}
 use native.Mathlib.Omega.{arith}
 use Rattle.types.specs.Answers.{numberOf}
 use Rattle.applying.specs.Asked.{calls}
@@ -18,12 +18,12 @@ returns-2 c = noStep (call-past _ _ (c .if2 .taken)) refl refl refl refl
 returns-3 : tie.Need-returns-3
 returns-3 c = let a = c .before .before .before .before .before .before .before .before .args in
     let t = call-there (calls (a .first) (a .second) (a .draws .now)) (a .step) (omega arith) (omega arith) in
-    noBytes (t .call) (t .at) (c .before .if3 .taken) (c .number .ensures) refl refl refl
+    noBytes (t .call) (t .at) (omega arith) (c .number .ensures) refl refl refl
 
 returns-4 : tie.Need-returns-4
 returns-4 c = let a = c .before .before .before .before .before .before .before .before .before .before .before .before .before .args in
     let t = call-there (calls (a .first) (a .second) (a .draws .now)) (a .step) (omega arith) (omega arith) in
-    notRead (t .call) _ (t .at) (c .before .before .before .before .before .before .if3 .left) (c .before .before .before .before .read-snapshot .ensures) (λ d. let z = ap numberOf d in omega (arith, c .before .number2 .ensures)) (c .before .number2 .ensures) refl refl
+    notRead (t .call) _ (t .at) (omega arith) (c .before .before .before .before .read-snapshot .ensures) (λ d. let z = ap numberOf d in omega (arith, c .before .number2 .ensures)) (c .before .number2 .ensures) refl refl
 
 slice-relend-prefix-apply-held : tie.Need-slice-relend-prefix-apply-held
 slice-relend-prefix-apply-held c = got-wide (got (c .before .before .before .before .read-snapshot .ensures) (omega (arith, c .before .number2 .ensures, c .if4 .left)))
@@ -32,14 +32,14 @@ slice-aggregate-apply-held : tie.Need-slice-aggregate-apply-held
 slice-aggregate-apply-held c = sym (got-front (got (c .before .before .before .before .before .read-snapshot .ensures) (omega (arith, c .before .before .number2 .ensures, c .before .if4 .left))))
 
 apply-held-requires : tie.Need-apply-held-requires
-apply-held-requires c κs = (got-held (got (c .before .before .before .before .before .before .before .read-snapshot .ensures) (omega (arith, c .before .before .before .before .number2 .ensures, c .before .before .before .if4 .left))), omega arith, omega arith, c .before .before .before .before .before .before .before .before .before .if3 .left)
+apply-held-requires c κs = (got-held (got (c .before .before .before .before .before .before .before .read-snapshot .ensures) (omega (arith, c .before .before .before .before .number2 .ensures, c .before .before .before .if4 .left))), omega arith, omega arith, omega arith)
 
 returns-5 : tie.Need-returns-5
 returns-5 c = let a = c .before .before .before .before .before .before .before .before .before .before .before .before .before .before .before .before .before .before .before .before .before .args in
     let t = call-there (calls (a .first) (a .second) (a .draws .now)) (a .step) (omega arith) (omega arith) in
     let g = got (c .before .before .before .before .before .before .before .before .before .before .before .before .read-snapshot .ensures) (omega (arith, c .before .before .before .before .before .before .before .before .before .number2 .ensures, c .before .before .before .before .before .before .before .before .if4 .left)) in
     let s = c .before .before .before .before .apply-held .ensures (t .call) (g .board) (t .at) (got-holds g) (got-good g) in
-    applied (t .call) (g .board) (t .at) (c .before .before .before .before .before .before .before .before .before .before .before .before .before .before .if3 .left) (g .reads) (g .room) (s .told) (got-left g _ _ (s .held))
+    applied (t .call) (g .board) (t .at) (omega arith) (g .reads) (g .room) (s .told) (got-left g _ _ (s .held))
 
 pub apply-spec : {M : Type 1} → statement M
 apply-spec =

@@ -1,4 +1,3 @@
-use mathlib.Core.Path.{refl}
 use Rattle.word_tests.specs.Tests.{allPass}
 use Rattle.row_tests.specs.Rows.{caseOk}
 use borrow.Author.Needs.{needs}

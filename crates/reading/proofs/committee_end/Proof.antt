@@ -1,4 +1,4 @@
-use mathlib.Core.Path.{refl, sym, _∙_}
+use mathlib.Core.Path.{refl, sym}
 use native.Mathlib.Omega.{arith}
 use lib.Seq.{length-take-le}
 use Rattle.unpacking.proofs.Bytes.{total}
@@ -11,7 +11,7 @@ returns : tie.Need-returns
 returns c = λ ws h. members-short _ ws _ _ refl (omega (arith, total h))
 
 returns-2 : tie.Need-returns-2
-returns-2 c = λ ws h. members-many _ ws _ _ (c .before .word .ensures ws h) (c .if2 .taken)
+returns-2 c = λ ws h. members-many _ ws _ _ (c .before .word .ensures ws h) (omega arith)
 
 returns-3 : tie.Need-returns-3
 returns-3 c = λ ws h. members-short _ ws _ _ (c .before .before .word .ensures ws h) (omega (arith, total h))
