@@ -1,0 +1,45 @@
+use Prim.Native.Nat.{_-_}
+use borrow.Author.Needs.{needs}
+use Rattle.roster_cli.proofs.show.show_each.Statement.{statement}
+use Rattle.roster_cli.proofs.show.show_each.Tie as tie
+
+abbrev Inv-loop : tie.InvT-loop
+Inv-loop what board n i₀ i = Unit {0}
+
+abbrev μ-loop : tie.MeasureT-loop
+μ-loop what board n i₀ i = n - i
+
+loop-holds : tie.Need-loop-holds Inv-loop μ-loop
+loop-holds c = search needs
+
+show-committee-requires : tie.Need-show-committee-requires Inv-loop μ-loop
+show-committee-requires c κs = search needs
+
+show-reshape-requires : tie.Need-show-reshape-requires Inv-loop μ-loop
+show-reshape-requires c κs = search needs
+
+add-i : tie.Need-add-i Inv-loop μ-loop
+add-i c = search needs
+
+loop-less : tie.Need-loop-less Inv-loop μ-loop
+loop-less c = search needs
+
+loop-again : tie.Need-loop-again Inv-loop μ-loop
+loop-again c = search needs
+
+returns : tie.Need-returns Inv-loop μ-loop
+returns c = search needs
+
+pub show-each-spec : {M : Type 1} → statement M
+show-each-spec =
+    tie.close
+    (tie.spec
+    Inv-loop
+    μ-loop
+    loop-holds
+    show-committee-requires
+    show-reshape-requires
+    add-i
+    loop-less
+    loop-again
+    returns)

@@ -1,0 +1,105 @@
+// Snapshots in files.
+use crate::args;
+use crate::say;
+use crate::say::WIDTH;
+
+pub const WORDS: usize = 5861;
+
+const MOST_BYTES: usize = 46816;
+
+// A descriptor; where there is none a mistake is told.
+pub(crate) fn open(path: &[u8]) -> i32 {
+    let fd = os::open_read(path);
+    if fd < 0 {
+        if os::errno() == libc::ENOENT {
+            say::mistake(b"there is no such file: ", path);
+        } else {
+            say::mistake(b"this file cannot be read: ", path);
+        }
+    }
+    fd
+}
+
+// Which word of the file is not a snapshot's.
+fn tell_stop(path: &[u8], bytes: &[u8]) {
+    if MOST_BYTES < bytes.len() {
+        say::mistake(
+            b"longer than any snapshot, which has at most 46816 bytes: ",
+            path,
+        );
+        return;
+    }
+    let mut line = [0u8; WIDTH];
+    let a = say::put(
+        &mut line,
+        0,
+        b"not a snapshot of a well-formed board; reading stopped at word ",
+        stops::stopped_at(bytes) as u64,
+    );
+    let b = say::words(&mut line, a, b": ");
+    say::mistake_at(&line, b, path);
+}
+
+fn read_path(path: &[u8], board: &mut [u64; WORDS]) -> bool {
+    let fd = open(path);
+    if fd < 0 {
+        return false;
+    }
+    let mut bytes = io::large_buffer();
+    let n = io::read_full(fd, &mut bytes);
+    libc::close(fd);
+    if roster::roster_read(&bytes[..n], board) == 0 {
+        return true;
+    }
+    tell_stop(path, &bytes[..n]);
+    false
+}
+
+// The board in the file that the word at i names; a mistake is told.
+pub(crate) fn read_board(i: usize, board: &mut [u64; WORDS]) -> bool {
+    if args::is_missing(i) {
+        say::mistake(b"a snapshot's file is missing (./roster help)", b"");
+        return false;
+    }
+    let mut path = io::buffer();
+    let n = os::arg(i, &mut path);
+    read_path(&path[..n], board)
+}
+
+fn put_all(path: &[u8], bytes: &[u8]) -> bool {
+    let fd = os::create(path);
+    if fd < 0 {
+        say::mistake(b"this file cannot be made, or is there already: ", path);
+        return false;
+    }
+    let is_written = io::write_all(fd, bytes);
+    let is_kept = libc::fsync(fd) == 0;
+    let is_closed = libc::close(fd) == 0;
+    if is_written & is_kept & is_closed {
+        return true;
+    }
+    os::unlink(path);
+    say::mistake(b"the snapshot could not be written to ", path);
+    false
+}
+
+// To a new file first, and then by rename, so that a cut run never leaves half a file.
+pub(crate) fn write_board(path: &[u8], board: &[u64; WORDS]) -> bool {
+    let mut bytes = io::large_buffer();
+    let mut length: u64 = 0;
+    roster::roster_write(board, &mut bytes, &mut length);
+    let n = say::within(length as usize, &bytes);
+    let mut room = io::buffer();
+    let a = lines::put_text(&mut room, 0, path);
+    let b = lines::put_text(&mut room, a, b".new");
+    let e = say::within(b, &room);
+    if !put_all(&room[..e], &bytes[..n]) {
+        return false;
+    }
+    if os::rename(&room[..e], path) != 0 {
+        os::unlink(&room[..e]);
+        say::mistake(b"the snapshot could not be put at ", path);
+        return false;
+    }
+    true
+}
