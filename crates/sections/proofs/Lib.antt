@@ -1,1 +1,2 @@
 mod Rests
+mod Rooms

@@ -2,8 +2,8 @@
 use Prim.Native.Nat.{ℕ, _+_, _*_, _-_}
 use mathlib.Core.Bool.{cond}
 use mathlib.Core.List.{List, [], _∷_}
-use lib.Dec.{ltb}
-use lib.ListN.{take, drop, getD}
+use lib.Dec.{ltb, leb}
+use lib.ListN.{length, take, drop, getD}
 use Rattle.rules.specs.Board.{mostCommittees, mostMembers, mostReshapes, mostSeats, mostHalf}
 use Rattle.board.specs.Layout.{machineWidth, committeeWidth, boundaryWidth, rotationWidth, reshapeWidth, seatWidth, membersAt, seatsAt, leftAt, rightAt, machinesAt, committeesAt, boundsAt, rotationsAt, reshapesAt, boardSize}
 use Rattle.sections.specs.declared.Span.{Span}
@@ -33,6 +33,7 @@ spans j =
     ∷ reshapeSpan j seatsAt (1 + mostSeats * seatWidth)
     ∷ reshapeSpan j leftAt (1 + mostHalf)
     ∷ reshapeSpan j rightAt (1 + mostHalf)
+    ∷ span 0 machinesAt
     ∷ []
 
 unfoldable pub spanOf : ℕ → ℕ → Span
@@ -40,3 +41,10 @@ spanOf which j = getD (spans j) which (span 0 0)
 
 unfoldable pub tableIn : ℕ → ℕ → List ℕ → List ℕ
 tableIn which j ws = take (spanOf which j .size) (drop (spanOf which j .at) ws)
+
+-- row i of a table, and a table's ids: nothing past its room
+unfoldable pub rowIn : ℕ → ℕ → List ℕ → List ℕ
+rowIn w i t = cond (leb (1 + i * w + w) (length t)) (take w (drop (1 + i * w) t)) []
+
+unfoldable pub idsIn : List ℕ → List ℕ
+idsIn t = cond (ltb (getD t 0 0) (length t)) (take (getD t 0 0) (drop 1 t)) []

@@ -24,7 +24,7 @@ ghost use mathlib.Core.Path.{_≡_};
 ghost use Prim.Native.Nat.{_+_, _≤_};
 ghost use lib.ListN.{length, getD};
 ghost use Rattle.board.specs.Layout.{boardSize, reshapeWidth};
-ghost use Rattle.sections.specs.Tables.{widths, membersSpan, reshapeSpan, spanOf, tableIn};
+ghost use Rattle.sections.specs.Tables.{widths, membersSpan, reshapeSpan, spanOf, tableIn, rowIn, idsIn};
 
 pub const MACHINES: u64 = 0;
 
@@ -44,6 +44,9 @@ pub const SEATS: u64 = 6;
 pub const LEFT: u64 = 7;
 
 pub const RIGHT: u64 = 8;
+
+// A count, and the six.
+pub const SETTINGS: u64 = 9;
 
 pub fn row_width(which: u64) -> usize
     ensures { λ r. ⌜ r ≡ getD widths which 1 ⌝ }
@@ -119,6 +122,10 @@ fn span_of(which: u64, j: usize) -> Span
         6 => in_reshape(j, SEATS_AT, SEATS_SIZE),
         7 => in_reshape(j, LEFT_AT, HALF_SIZE),
         8 => in_reshape(j, RIGHT_AT, HALF_SIZE),
+        9 => Span {
+            at: 0,
+            size: MACHINES_AT,
+        },
         _ => Span { at: 0, size: 0 },
     }
 }
@@ -132,4 +139,37 @@ pub fn table(board: &[u64], which: u64, j: usize) -> &[u64]
     let at = s.at;
     let e = at + s.size;
     &board[at..e]
+}
+
+// Row i of a table of width w; nothing past its room.
+pub fn row(t: &[u64], w: usize, i: usize) -> &[u64]
+    ensures { λ r. ⌜ now r ≡ rowIn w i (now (t .entry)) ⌝ }
+{
+    if t.len() == 0 {
+        return &t[..0];
+    }
+    if w == 0 {
+        return &t[..0];
+    }
+    if (t.len() - 1) / w <= i {
+        return &t[..0];
+    }
+    let s = 1 + i * w;
+    let e = s + w;
+    &t[s..e]
+}
+
+// The ids of a table of ids; none where its count is past its room.
+pub fn ids(t: &[u64]) -> &[u64]
+    ensures { λ r. ⌜ now r ≡ idsIn (now (t .entry)) ⌝ }
+{
+    if t.len() == 0 {
+        return &t[..0];
+    }
+    let n = t[0] as usize;
+    if t.len() <= n {
+        return &t[..0];
+    }
+    let e = n + 1;
+    &t[1..e]
 }

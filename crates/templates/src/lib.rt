@@ -7,7 +7,7 @@ ghost use Rattle.lines.specs.Says.{Puts};
 ghost use Rattle.templates.specs.Filled.{filled};
 
 // 0 where they have run out.
-fn number_at(numbers: &[u64], k: usize) -> u64
+pub fn number_at(numbers: &[u64], k: usize) -> u64
     ensures { λ r. ⌜ r ≡ getD (now (numbers .entry)) k 0 ⌝ }
 {
     if k < numbers.len() {

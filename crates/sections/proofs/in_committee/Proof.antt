@@ -5,31 +5,23 @@ use Rattle.sections.specs.Tables.{membersSpan}
 use borrow.Author.Needs.{needs}
 use Rattle.sections.proofs.in_committee.Statement.{statement}
 use Rattle.sections.proofs.in_committee.Tie as tie
-use Rattle.sections.proofs.in_committee.Reads as reads
-use Rattle.sections.proofs.in_committee.Lts as lts
 
--- src/lib.rt:73:17
 add-t3 : tie.Need-add-t3
 add-t3 c = search needs
 
--- src/lib.rt:73:37
 mul-t4 : tie.Need-mul-t4
 mul-t4 c = search needs
 
--- src/lib.rt:73:17
 add-t5 : tie.Need-add-t5
 add-t5 c = search needs
 
--- src/lib.rt:73:17
 add-t6 : tie.Need-add-t6
 add-t6 c = search needs
 
--- src/lib.rt:72:9
 returns : tie.Need-returns
 unfolding membersSpan
 returns c = (rw (lt-ltb (c .before .args .j) mostCommittees (c .if1 .taken)), omega arith)
 
--- src/lib.rt:68:1
 returns-2 : tie.Need-returns-2
 unfolding membersSpan
 returns-2 c = (rw (le-ltb (c .before .args .j) mostCommittees (c .if1 .left)), omega arith)

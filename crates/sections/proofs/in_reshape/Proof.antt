@@ -5,31 +5,23 @@ use Rattle.sections.specs.Tables.{reshapeSpan}
 use borrow.Author.Needs.{needs}
 use Rattle.sections.proofs.in_reshape.Statement.{statement}
 use Rattle.sections.proofs.in_reshape.Tie as tie
-use Rattle.sections.proofs.in_reshape.Reads as reads
-use Rattle.sections.proofs.in_reshape.Lts as lts
 
--- src/lib.rt:86:17
 add-t5 : tie.Need-add-t5
 add-t5 c = search needs
 
--- src/lib.rt:86:35
 mul-t6 : tie.Need-mul-t6
 mul-t6 c = search needs
 
--- src/lib.rt:86:17
 add-t7 : tie.Need-add-t7
 add-t7 c = search needs
 
--- src/lib.rt:86:17
 add-t8 : tie.Need-add-t8
 add-t8 c = search needs
 
--- src/lib.rt:85:9
 returns : tie.Need-returns
 unfolding reshapeSpan
 returns c = (rw (lt-ltb (c .before .args .j) mostReshapes (c .if1 .taken)), omega arith)
 
--- src/lib.rt:80:1
 returns-2 : tie.Need-returns-2
 unfolding reshapeSpan
 returns-2 c = (rw (le-ltb (c .before .args .j) mostReshapes (c .if1 .left)), omega arith)

@@ -5,34 +5,25 @@ use Rattle.sections.specs.Tables.{widths}
 use borrow.Author.Needs.{needs}
 use Rattle.sections.proofs.row_width.Statement.{statement}
 use Rattle.sections.proofs.row_width.Tie as tie
-use Rattle.sections.proofs.row_width.Reads as reads
-use Rattle.sections.proofs.row_width.Lts as lts
 
--- src/lib.rt:48:1
 returns : tie.Need-returns
 returns c = search needs
 
--- src/lib.rt:48:1
 returns-2 : tie.Need-returns-2
 returns-2 c = search needs
 
--- src/lib.rt:48:1
 returns-3 : tie.Need-returns-3
 returns-3 c = search needs
 
--- src/lib.rt:48:1
 returns-4 : tie.Need-returns-4
 returns-4 c = search needs
 
--- src/lib.rt:48:1
 returns-5 : tie.Need-returns-5
 returns-5 c = search needs
 
--- src/lib.rt:48:1
 returns-6 : tie.Need-returns-6
 returns-6 c = search needs
 
--- src/lib.rt:48:1
 returns-7 : tie.Need-returns-7
 returns-7 c = search needs
 

@@ -6,96 +6,77 @@ use Rattle.sections.specs.Tables.{span, spans, spanOf}
 use borrow.Author.Needs.{needs}
 use Rattle.sections.proofs.span_of.Statement.{statement}
 use Rattle.sections.proofs.span_of.Tie as tie
-use Rattle.sections.proofs.span_of.Reads as reads
-use Rattle.sections.proofs.span_of.Lts as lts
-use Rattle.sections.proofs.in_committee.Reads as in-committee-reads
-use Rattle.sections.proofs.in_reshape.Reads as in-reshape-reads
 
--- src/lib.rt:99:19
 sub-t4 : tie.Need-sub-t4
 sub-t4 c = search needs
 
--- src/lib.rt:103:19
 sub-t5 : tie.Need-sub-t5
 sub-t5 c = search needs
 
--- src/lib.rt:107:19
 sub-t6 : tie.Need-sub-t6
 sub-t6 c = search needs
 
--- src/lib.rt:111:19
 sub-t7 : tie.Need-sub-t7
 sub-t7 c = search needs
 
--- src/lib.rt:115:19
 sub-t8 : tie.Need-sub-t8
 sub-t8 c = search needs
 
--- src/lib.rt:117:14
 in-committee-requires : tie.Need-in-committee-requires
 in-committee-requires c κs = search needs
 
--- src/lib.rt:118:14
 in-reshape-requires : tie.Need-in-reshape-requires
 in-reshape-requires c κs = search needs
 
--- src/lib.rt:119:14
 in-reshape-requires-2 : tie.Need-in-reshape-requires-2
 in-reshape-requires-2 c κs = search needs
 
--- src/lib.rt:120:14
 in-reshape-requires-3 : tie.Need-in-reshape-requires-3
 in-reshape-requires-3 c κs = search needs
 
--- src/lib.rt:93:1
 returns : tie.Need-returns
 unfolding spanOf spans
 returns c = let e : c .before .args .which ≡ 0 = omega arith in (rw e, omega arith)
 
--- src/lib.rt:93:1
 returns-2 : tie.Need-returns-2
 unfolding spanOf spans
 returns-2 c = let e : c .before .args .which ≡ 1 = omega arith in (rw e, omega arith)
 
--- src/lib.rt:93:1
 returns-3 : tie.Need-returns-3
 unfolding spanOf spans
 returns-3 c = let e : c .before .args .which ≡ 2 = omega arith in (rw e, omega arith)
 
--- src/lib.rt:93:1
 returns-4 : tie.Need-returns-4
 unfolding spanOf spans
 returns-4 c = let e : c .before .args .which ≡ 3 = omega arith in (rw e, omega arith)
 
--- src/lib.rt:93:1
 returns-5 : tie.Need-returns-5
 unfolding spanOf spans
 returns-5 c = let e : c .before .args .which ≡ 4 = omega arith in (rw e, omega arith)
 
--- src/lib.rt:93:1
 returns-6 : tie.Need-returns-6
 unfolding spanOf spans
 returns-6 c = let e : c .before .before .args .which ≡ 5 = omega arith in (rw e (c .in-committee .ensures .0), c .in-committee .ensures .1)
 
--- src/lib.rt:93:1
 returns-7 : tie.Need-returns-7
 unfolding spanOf spans
 returns-7 c = let e : c .before .before .args .which ≡ 6 = omega arith in (rw e (c .in-reshape .ensures .0), c .in-reshape .ensures .1)
 
--- src/lib.rt:93:1
 returns-8 : tie.Need-returns-8
 unfolding spanOf spans
 returns-8 c = let e : c .before .before .args .which ≡ 7 = omega arith in (rw e (c .in-reshape2 .ensures .0), c .in-reshape2 .ensures .1)
 
--- src/lib.rt:93:1
 returns-9 : tie.Need-returns-9
 unfolding spanOf spans
 returns-9 c = let e : c .before .before .args .which ≡ 8 = omega arith in (rw e (c .in-reshape3 .ensures .0), c .in-reshape3 .ensures .1)
 
--- src/lib.rt:93:1
 returns-10 : tie.Need-returns-10
+unfolding spanOf spans
+returns-10 c = let e : c .before .args .which ≡ 9 = omega arith in (rw e, omega arith)
+
+returns-11 : tie.Need-returns-11
 unfolding spanOf spans NoneOf
-returns-10 c = (sym (List·getD-eq-default (spans (c .before .args .j)) (span 0 0) (rest 9 _ (c .match .rest))), omega arith)
+returns-11 c = (sym (List·getD-eq-default (spans (c .before .args .j)) (span 0 0) (rest 10 _ (c .match .rest))), omega arith)
 
 pub span-of-spec : {M : Type 1} → statement M
 span-of-spec =
@@ -119,4 +100,5 @@ span-of-spec =
     returns-7
     returns-8
     returns-9
-    returns-10)
+    returns-10
+    returns-11)
