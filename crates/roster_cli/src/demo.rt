@@ -1,4 +1,4 @@
-// `demo`: a split from its admission to its cut, on a built-in board.
+// `demo`: document 01's story, a split from its admission to its cut, on built-in boards.
 use crate::calls;
 use crate::diffs;
 use crate::files::WORDS;
@@ -6,77 +6,49 @@ use crate::say::text;
 use crate::show;
 use crate::trying;
 
-// A snapshot's words: settings, machines, committees, boundaries, rotations, reshapes, each after its count.
-const SNAPSHOT: [u64; 66] = [
-    6,
-    5,
-    4,
-    2,
-    3,
-    10,
-    2, // epoch 5, S 4, D 2, W 3, interval 10, most 2
-    8,
-    11,
-    1,
-    1,
-    1,
-    0,
-    12,
-    1,
-    1,
-    1,
-    0,
-    13,
-    1,
-    1,
-    1,
-    0,
-    14,
-    1,
-    1,
-    1,
-    0, // seated on shard 1, ready
-    21,
-    0,
-    0,
-    0,
-    0,
-    22,
-    0,
-    0,
-    0,
-    0,
-    23,
-    0,
-    0,
-    0,
-    0,
-    24,
-    0,
-    0,
-    0,
-    0, // pooled
-    1,
-    1,
-    4,
-    11,
-    12,
-    13,
-    14,
-    1,
-    1,
-    100,
-    1,
-    4,
-    0,
-    0,
-    0,
-    0,
-    0,
-    0,
-];
+// ---- the boards, as the words of a snapshot, each in a byte: epoch 5, D 2, W 3, interval 10, most 2 in flight; shard 1 with its
+// members seated and ready, its boundary, and as many machines in the pool
+
+fn load(words: &[u8], size: usize, board: &mut [u64; WORDS]) {
+    let mut bytes = [0u8; 1024];
+    let mut i: usize = 0;
+    while i < words.len() {
+        if i < 128 {
+            bytes[8 * i] = words[i];
+        }
+        i += 1;
+    }
+    roster::roster_read(lines::said(&bytes, size), board);
+}
+
+// S is 4: members 11 to 14, and 21 to 24 in the pool.
+fn load_four(board: &mut [u64; WORDS]) {
+    load(
+        b"\x06\x05\x04\x02\x03\x0a\x02\x08\x0b\x01\x01\x01\x00\x0c\x01\x01\x01\x00\x0d\x01\x01\x01\
+          \x00\x0e\x01\x01\x01\x00\x15\x00\x00\x00\x00\x16\x00\x00\x00\x00\x17\x00\x00\x00\x00\x18\
+          \x00\x00\x00\x00\x01\x01\x04\x0b\x0c\x0d\x0e\x01\x01\x64\x01\x04\x00\x00\x00\x00\x00\x00",
+        528,
+        board,
+    );
+}
+
+// S is 5: members 11 to 15, and 21 to 25 in the pool.
+fn load_five(board: &mut [u64; WORDS]) {
+    load(
+        b"\x06\x05\x05\x02\x03\x0a\x02\x0a\x0b\x01\x01\x01\x00\x0c\x01\x01\x01\x00\x0d\x01\x01\x01\
+          \x00\x0e\x01\x01\x01\x00\x0f\x01\x01\x01\x00\x15\x00\x00\x00\x00\x16\x00\x00\x00\x00\x17\
+          \x00\x00\x00\x00\x18\x00\x00\x00\x00\x19\x00\x00\x00\x00\x01\x01\x05\x0b\x0c\x0d\x0e\x0f\
+          \x01\x01\x64\x01\x04\x00\x00\x00\x00\x00\x00",
+        616,
+        board,
+    );
+}
+
+// ---- the steps
 
 const STEPS: u64 = 11;
+
+const SCHEDULE: u64 = 8;
 
 fn step_at(k: u64) -> u64 {
     match k {
@@ -86,20 +58,29 @@ fn step_at(k: u64) -> u64 {
         5 => 5,
         8 | 10 => 10,
         9 => 1,
-        _ => 8,
+        _ => SCHEDULE,
     }
 }
 
-fn make(k: u64, board: &mut [u64; WORDS], results: &mut [u64; 2]) -> u64 {
+// A seat of the left child, and one of the right.
+fn seat_at(k: u64) -> u64 {
     match k {
-        3 => calls::make(4, 1, 22, board, &[0, 0, 0], results),
-        4 => calls::make(4, 1, 24, board, &[0, 0, 0], results),
-        2 | 6 | 7 => calls::make(8, 1, 0, board, &[3, 2, 1], results),
-        _ => calls::make(step_at(k), 1, 0, board, &[0, 0, 0], results),
+        3 => 22,
+        4 => 21,
+        _ => 0,
     }
 }
 
-fn tell_step(k: u64) {
+// A schedule shuffles by the order given, which leaves members as they stand.
+fn make(k: u64, order: &[u64], board: &mut [u64; WORDS], results: &mut [u64; 2]) -> u64 {
+    let step = step_at(k);
+    if step == SCHEDULE {
+        return calls::make(step, 0, 0, board, order, results);
+    }
+    calls::make(step, 1, seat_at(k), board, &[0, 0, 0, 0], results)
+}
+
+fn tell_admission(k: u64) {
     match k {
         0 => text(b"\n> admit_split 1: a split of shard 1 is admitted, with an empty cohort\n"),
         1 => text(
@@ -109,8 +90,13 @@ fn tell_step(k: u64) {
             b"\n> schedule_splits --draws 3,2,1: no seat is ready, so no drain begins (C4)\n",
         ),
         3 => text(b"\n> mark_seat_ready 1 22: a seat of the left child is ready\n"),
-        4 => text(b"\n> mark_seat_ready 1 24: and one of the right child\n"),
-        5 => text(b"\n> mark_quiet 1 0: the shard is quiet\n"),
+        4 => text(b"\n> mark_seat_ready 1 21: and one of the right child\n"),
+        _ => text(b"\n> mark_quiet 1 0: the shard is quiet\n"),
+    }
+}
+
+fn tell_cut(k: u64) {
+    match k {
         6 => text(
             b"\n> schedule_splits --draws 3,2,1: each child has its quorum of 3; a drain begins (C3, C5)\n",
         ),
@@ -125,32 +111,57 @@ fn tell_step(k: u64) {
     }
 }
 
+fn tell_step(k: u64) {
+    if k < 6 {
+        return tell_admission(k);
+    }
+    tell_cut(k);
+}
+
 fn take(k: u64, board: &mut [u64; WORDS]) {
     let before = *board;
     let mut results = [0u64; 2];
     tell_step(k);
-    let answer = make(k, board, &mut results);
+    let answer = make(k, &[3, 2, 1], board, &mut results);
     trying::tell(answer, &results);
     diffs::tell(&before, board);
 }
 
-fn load(board: &mut [u64; WORDS]) {
-    let words = SNAPSHOT;
-    let mut bytes = [0u8; 528];
-    bytes_words::put_words(&words, &mut bytes, 0);
-    roster::roster_read(&bytes, board);
+fn take_each(board: &mut [u64; WORDS]) {
+    let mut k: u64 = 0;
+    while k < STEPS {
+        take(k, board);
+        k += 1;
+    }
+}
+
+fn make_each(board: &mut [u64; WORDS]) {
+    let mut results = [0u64; 2];
+    let mut k: u64 = 0;
+    while k < STEPS {
+        make(k, &[4, 3, 2, 1], board, &mut results);
+        k += 1;
+    }
+}
+
+// ---- the story
+
+fn tell_five() {
+    let mut board = [0u64; WORDS];
+    load_five(&mut board);
+    let before = board;
+    text(b"\n> the same steps with S = 5 and five members: children of 6 and 4 (C2)\n");
+    make_each(&mut board);
+    diffs::tell(&before, &board);
 }
 
 pub(crate) fn tell() {
     let mut board = [0u64; WORDS];
-    load(&mut board);
+    load_four(&mut board);
     text(b"The roster before:\n\n");
     show::tell(&board);
-    let mut k: u64 = 0;
-    while k < STEPS {
-        take(k, &mut board);
-        k += 1;
-    }
+    take_each(&mut board);
     text(b"\nThe roster after:\n\n");
     show::tell(&board);
+    tell_five();
 }

@@ -1,294 +1,197 @@
 // `diff`, and what a step changed: machine by machine, shard by shard.
 use crate::args;
+use crate::facts;
 use crate::files;
 use crate::files::WORDS;
 use crate::lists;
 use crate::rows_of;
+use crate::say;
 use crate::say::WIDTH;
 use crate::say::end;
-use crate::say::put;
 use crate::say::text;
 use crate::say::words;
 use crate::show;
 use crate::words::put_place;
-use board::committees;
-use board::layout::BOARD_SIZE;
-use board::layout::BOUNDARY_WIDTH;
-use board::layout::BOUNDS_AT;
-use board::layout::COMMITTEE_WIDTH;
-use board::layout::COMMITTEES_AT;
-use board::layout::HALF_SIZE;
-use board::layout::LEFT_AT;
-use board::layout::MACHINE_WIDTH;
-use board::layout::MACHINES_AT;
-use board::layout::MOST_COMMITTEES;
 use board::layout::MOST_MACHINES;
-use board::layout::MOST_RESHAPES;
-use board::layout::RESHAPE_WIDTH;
-use board::layout::RESHAPES_AT;
-use board::layout::ROTATION_WIDTH;
-use board::layout::ROTATIONS_AT;
-use board::layout::SEAT_WIDTH;
-use board::layout::SEATS_AT;
-use board::layout::SEATS_SIZE;
-use board::layout::SETTINGS_END;
-use board::layout::SIZE;
 use board::machines;
-use board::settings;
 use differences::Difference;
-use reshapes::seats as cohort;
+use sections::BOUNDARIES;
+use sections::COMMITTEES;
+use sections::LEFT;
+use sections::MACHINES;
+use sections::MEMBERS;
+use sections::RESHAPES;
+use sections::RIGHT;
+use sections::ROTATIONS;
+use sections::SEATS;
+use sections::SETTINGS;
+use templates::fill;
+use templates::number_at;
 
-// The tables.
-const MACHINES: u64 = 0;
+// ---- the next difference of two tables
 
-const COMMITTEES: u64 = 1;
+const SAME: u64 = 0;
 
-const BOUNDARIES: u64 = 2;
+const GONE: u64 = 1;
 
-const ROTATIONS: u64 = 3;
+const NEW: u64 = 2;
 
-const RESHAPES: u64 = 4;
+const CHANGED: u64 = 3;
 
-// How a table is walked: its rows' keys and width, and how many words it has.
-pub struct Table {
-    pub pairs: bool,
-    pub width: usize,
-    pub size: usize,
+// Rows k of the first table and l of the second.
+pub struct Apart {
+    pub how: u64,
+    pub k: usize,
+    pub l: usize,
 }
 
-fn walked_as(pairs: bool, width: usize, size: usize) -> Table {
-    Table {
-        pairs: pairs,
-        width: width,
-        size: size,
+fn told(d: Difference) -> Apart {
+    match d {
+        Difference::Gone(k, l) => Apart {
+            how: GONE,
+            k: k,
+            l: l,
+        },
+        Difference::New(k, l) => Apart {
+            how: NEW,
+            k: k,
+            l: l,
+        },
+        Difference::Changed(k, l) => Apart {
+            how: CHANGED,
+            k: k,
+            l: l,
+        },
+        Difference::Same => Apart {
+            how: SAME,
+            k: 0,
+            l: 0,
+        },
     }
 }
 
-// Of the table at s in one board and at t in the other.
-fn next_in(of: Table, a: &[u64], s: usize, b: &[u64], t: usize, i: usize, j: usize) -> Difference {
-    let size = of.size;
-    if a.len() < size {
-        return Difference::Same;
-    }
-    if a.len() - size < s {
-        return Difference::Same;
-    }
-    if b.len() < size {
-        return Difference::Same;
-    }
-    if b.len() - size < t {
-        return Difference::Same;
-    }
-    let e = s + size;
-    let f = t + size;
-    differences::next_difference(of.pairs, of.width, &a[s..e], &b[t..f], i, j)
+fn next_in(which: u64, a: &[u64], b: &[u64], k: usize, l: usize) -> Apart {
+    let pairs = which == ROTATIONS;
+    let width = sections::row_width(which);
+    told(differences::next_difference(pairs, width, a, b, k, l))
 }
 
-fn next(which: u64, a: &[u64], b: &[u64], i: usize, j: usize) -> Difference {
-    match which {
-        0 => {
-            let of = walked_as(false, MACHINE_WIDTH, COMMITTEES_AT - MACHINES_AT);
-            next_in(of, a, MACHINES_AT, b, MACHINES_AT, i, j)
-        }
-        1 => {
-            let of = walked_as(false, COMMITTEE_WIDTH, BOUNDS_AT - COMMITTEES_AT);
-            next_in(of, a, COMMITTEES_AT, b, COMMITTEES_AT, i, j)
-        }
-        2 => {
-            let of = walked_as(false, BOUNDARY_WIDTH, ROTATIONS_AT - BOUNDS_AT);
-            next_in(of, a, BOUNDS_AT, b, BOUNDS_AT, i, j)
-        }
-        3 => {
-            let of = walked_as(true, ROTATION_WIDTH, RESHAPES_AT - ROTATIONS_AT);
-            next_in(of, a, ROTATIONS_AT, b, ROTATIONS_AT, i, j)
-        }
-        _ => {
-            let of = walked_as(false, RESHAPE_WIDTH, BOARD_SIZE - RESHAPES_AT);
-            next_in(of, a, RESHAPES_AT, b, RESHAPES_AT, i, j)
-        }
-    }
+// A table of each board, inside row i of one and row j of the other where it stands in a row.
+pub struct Rows {
+    pub which: u64,
+    pub i: usize,
+    pub j: usize,
 }
+
+fn next(t: Rows, a: &[u64; WORDS], b: &[u64; WORDS], k: usize, l: usize) -> Apart {
+    next_in(
+        t.which,
+        facts::table(a, t.which, t.i),
+        facts::table(b, t.which, t.j),
+        k,
+        l,
+    )
+}
+
+// ---- a row in one board
 
 fn put_machine(line: &mut [u8; WIDTH], at: usize, board: &[u64; WORDS], i: usize) -> usize {
     if MOST_MACHINES <= i {
         return at;
     }
     let m = machines::at(board, i);
-    let place = m.place;
-    put_place(line, at, place)
+    put_place(line, at, m.place)
 }
 
 fn put_name(line: &mut [u8; WIDTH], at: usize, board: &[u64; WORDS], i: usize) -> usize {
-    if MOST_MACHINES <= i {
-        return at;
-    }
-    let m = machines::at(board, i);
-    let id = m.id;
-    let a = put(line, at, b"machine ", id.0);
-    words(line, a, b": ")
+    fill(line, at, b"machine #: ", facts::row(board, MACHINES, 0, i))
 }
 
-fn changed_machine(a: &[u64; WORDS], i: usize, b: &[u64; WORDS], j: usize) {
+fn machine(name: &[u8], board: &[u64; WORDS], i: usize) {
     let mut line = [0u8; WIDTH];
-    let o = words(&mut line, 0, b"  ");
-    let n = put_name(&mut line, o, a, i);
-    let m = put_machine(&mut line, n, a, i);
-    let mut at = words(&mut line, m, b" -> ");
-    if 52 < at {
-        end(&line, m);
-        at = words(&mut line, 0, b"    -> ");
-    }
-    let e = put_machine(&mut line, at, b, j);
+    let n = words(&mut line, 0, name);
+    let m = put_name(&mut line, n, board, i);
+    let e = put_machine(&mut line, m, board, i);
     end(&line, e);
 }
 
 fn committee(name: &[u8], board: &[u64; WORDS], j: usize) {
-    if MOST_COMMITTEES <= j {
-        return;
-    }
-    let shard = committees::shard_at(board, j);
-    let n = committees::member_count(board, j);
-    let mut line = [0u8; WIDTH];
-    let a = words(&mut line, 0, name);
-    let b = put(&mut line, a, b"committee of shard ", shard.0);
-    let c = put(&mut line, b, b", members ", n as u64);
-    end(&line, c);
-    lists::list(lists::MEMBERS, board, j, n);
+    say::after(
+        name,
+        b"committee of shard #, members #",
+        facts::row(board, COMMITTEES, 0, j),
+    );
+    lists::list(facts::ids(board, MEMBERS, j));
 }
 
 fn reshape(name: &[u8], board: &[u64; WORDS], i: usize) {
-    if MOST_RESHAPES <= i {
-        return;
-    }
-    let mut line = [0u8; WIDTH];
-    let a = words(&mut line, 0, name);
-    let b = rows_of::put_reshape(&mut line, a, board, i);
-    end(&line, b);
-    let mut more = [0u8; WIDTH];
-    let c = words(&mut more, 0, b"      ");
-    let d = rows_of::put_reshape_state(&mut more, c, board, i);
-    end(&more, d);
-    rows_of::each(rows_of::INSIDE_SEATS, board, i, cohort::count(board, i));
+    show::reshape_head(name, board, i);
+    show::reshape_state(b"      ", board, i);
+    rows_of::each(
+        rows_of::INSIDE_SEATS,
+        board,
+        i,
+        facts::count(board, SEATS, i),
+    );
     lists::list_halves(board, i);
 }
 
 // A row after its name: was, is, new or gone.
 fn row(which: u64, name: &[u8], board: &[u64; WORDS], i: usize) {
-    match which {
-        0 => {
-            let mut line = [0u8; WIDTH];
-            let n = words(&mut line, 0, name);
-            let m = put_name(&mut line, n, board, i);
-            let e = put_machine(&mut line, m, board, i);
-            end(&line, e);
-        }
-        1 => committee(name, board, i),
-        2 => {
-            text(name);
-            text(b"boundary\n");
-            rows_of::boundary(board, i);
-        }
-        3 => {
-            text(name);
-            text(b"rotation\n");
-            rows_of::rotation(board, i);
-        }
-        _ => reshape(name, board, i),
+    if which == MACHINES {
+        return machine(name, board, i);
     }
+    if which == COMMITTEES {
+        return committee(name, board, i);
+    }
+    if which == RESHAPES {
+        return reshape(name, board, i);
+    }
+    text(name);
+    if which == BOUNDARIES {
+        text(b"boundary\n");
+        return rows_of::boundary(board, i);
+    }
+    text(b"rotation\n");
+    rows_of::rotation(board, i);
 }
 
-fn next_seat(a: &[u64], i: usize, b: &[u64], j: usize, k: usize, l: usize) -> Difference {
-    if MOST_RESHAPES <= i {
-        return Difference::Same;
-    }
-    if MOST_RESHAPES <= j {
-        return Difference::Same;
-    }
-    let s = RESHAPES_AT + 1 + i * RESHAPE_WIDTH + SEATS_AT;
-    let t = RESHAPES_AT + 1 + j * RESHAPE_WIDTH + SEATS_AT;
-    next_in(walked_as(false, SEAT_WIDTH, SEATS_SIZE), a, s, b, t, k, l)
-}
+// ---- a row in both
 
-// The seats of reshape i of one board and j of the other.
-fn walk_seats(a: &[u64; WORDS], i: usize, b: &[u64; WORDS], j: usize) {
-    let mut k: usize = 0;
-    let mut l: usize = 0;
-    let mut left = MOST_TURNS;
-    while 0 < left {
-        match next_seat(a, i, b, j, k, l) {
-            Difference::Gone(m, n) => {
-                rows_of::seat(b"    gone", a, i, m);
-                k = std::num::wrapping_add_usize(m, 1);
-                l = n;
-            }
-            Difference::New(m, n) => {
-                rows_of::seat(b"    new ", b, j, n);
-                k = m;
-                l = std::num::wrapping_add_usize(n, 1);
-            }
-            Difference::Changed(m, n) => {
-                rows_of::seat(b"    was ", a, i, m);
-                rows_of::seat(b"    is  ", b, j, n);
-                k = std::num::wrapping_add_usize(m, 1);
-                l = std::num::wrapping_add_usize(n, 1);
-            }
-            Difference::Same => {
-                return;
-            }
-        }
-        left -= 1;
-    }
-}
-
-fn reshape_state(name: &[u8], board: &[u64; WORDS], i: usize) {
+fn place(name: &[u8], board: &[u64; WORDS], i: usize) {
     let mut line = [0u8; WIDTH];
-    let a = words(&mut line, 0, name);
-    let b = rows_of::put_reshape_state(&mut line, a, board, i);
-    end(&line, b);
+    let n = words(&mut line, 0, name);
+    let e = put_machine(&mut line, n, board, i);
+    end(&line, e);
 }
 
-// So many words from s on in one board, and from t on in the other.
-fn same_part(size: usize, a: &[u64], s: usize, b: &[u64], t: usize) -> bool {
-    if a.len() < size {
-        return true;
+fn changed_machine(a: &[u64; WORDS], i: usize, b: &[u64; WORDS], j: usize) {
+    let mut line = [0u8; WIDTH];
+    let n = words(&mut line, 0, b"  ");
+    let m = put_name(&mut line, n, a, i);
+    let o = put_machine(&mut line, m, a, i);
+    let at = words(&mut line, o, b" -> ");
+    if 52 < at {
+        end(&line, o);
+        return place(b"    -> ", b, j);
     }
-    if a.len() - size < s {
-        return true;
-    }
-    if b.len() < size {
-        return true;
-    }
-    if b.len() - size < t {
-        return true;
-    }
-    let e = s + size;
-    let f = t + size;
-    differences::same_words(&a[s..e], &b[t..f])
+    let e = put_machine(&mut line, at, b, j);
+    end(&line, e);
 }
 
-fn same_halves(a: &[u64; WORDS], i: usize, b: &[u64; WORDS], j: usize) -> bool {
-    if MOST_RESHAPES <= i {
-        return true;
-    }
-    if MOST_RESHAPES <= j {
-        return true;
-    }
-    let s = RESHAPES_AT + 1 + i * RESHAPE_WIDTH + LEFT_AT;
-    let t = RESHAPES_AT + 1 + j * RESHAPE_WIDTH + LEFT_AT;
-    same_part(2 * HALF_SIZE, a, s, b, t)
+fn same_ids(which: u64, a: &[u64; WORDS], i: usize, b: &[u64; WORDS], j: usize) -> bool {
+    differences::same_words(facts::ids(a, which, i), facts::ids(b, which, j))
 }
 
 fn changed_reshape(a: &[u64; WORDS], i: usize, b: &[u64; WORDS], j: usize) {
-    let mut line = [0u8; WIDTH];
-    let n = words(&mut line, 0, b"  ");
-    let m = rows_of::put_reshape(&mut line, n, b, j);
-    end(&line, m);
-    reshape_state(b"    was ", a, i);
-    reshape_state(b"    is  ", b, j);
+    show::reshape_head(b"  ", b, j);
+    show::reshape_state(b"    was ", a, i);
+    show::reshape_state(b"    is  ", b, j);
     walk_seats(a, i, b, j);
-    if !same_halves(a, i, b, j) {
-        lists::list_halves(b, j);
+    if same_ids(LEFT, a, i, b, j) & same_ids(RIGHT, a, i, b, j) {
+        return;
     }
+    lists::list_halves(b, j);
 }
 
 fn changed(which: u64, a: &[u64; WORDS], i: usize, b: &[u64; WORDS], j: usize) {
@@ -302,63 +205,113 @@ fn changed(which: u64, a: &[u64; WORDS], i: usize, b: &[u64; WORDS], j: usize) {
     row(which, b"  is:  ", b, j);
 }
 
+// ---- the walks
+
+fn past(k: usize, is_passed: bool) -> usize {
+    if is_passed {
+        return std::num::wrapping_add_usize(k, 1);
+    }
+    k
+}
+
+fn seat_apart(d: Apart, a: &[u64; WORDS], i: usize, b: &[u64; WORDS], j: usize) {
+    if d.how == GONE {
+        return rows_of::seat(b"    gone", a, i, d.k);
+    }
+    if d.how == NEW {
+        return rows_of::seat(b"    new ", b, j, d.l);
+    }
+    rows_of::seat(b"    was ", a, i, d.k);
+    rows_of::seat(b"    is  ", b, j, d.l);
+}
+
 // More than two tables have rows.
 const MOST_TURNS: u64 = 1024;
 
-// The differences of a table: whether there is one.
-fn walk(which: u64, a: &[u64; WORDS], b: &[u64; WORDS]) -> bool {
-    let mut i: usize = 0;
-    let mut j: usize = 0;
+// The seats of reshape i of one board and j of the other.
+fn walk_seats(a: &[u64; WORDS], i: usize, b: &[u64; WORDS], j: usize) {
+    let t = Rows {
+        which: SEATS,
+        i: i,
+        j: j,
+    };
+    let mut k: usize = 0;
+    let mut l: usize = 0;
     let mut left = MOST_TURNS;
     while 0 < left {
-        match next(which, a, b, i, j) {
-            Difference::Gone(k, l) => {
-                row(which, b"  gone: ", a, k);
-                i = std::num::wrapping_add_usize(k, 1);
-                j = l;
-            }
-            Difference::New(k, l) => {
-                row(which, b"  new: ", b, l);
-                i = k;
-                j = std::num::wrapping_add_usize(l, 1);
-            }
-            Difference::Changed(k, l) => {
-                changed(which, a, k, b, l);
-                i = std::num::wrapping_add_usize(k, 1);
-                j = std::num::wrapping_add_usize(l, 1);
-            }
-            Difference::Same => {
-                return left < MOST_TURNS;
-            }
+        let d = next(t, a, b, k, l);
+        if d.how == SAME {
+            return;
         }
+        seat_apart(d, a, i, b, j);
+        k = past(d.k, d.how != NEW);
+        l = past(d.l, d.how != GONE);
+        left -= 1;
+    }
+}
+
+fn row_apart(which: u64, d: Apart, a: &[u64; WORDS], b: &[u64; WORDS]) {
+    if d.how == GONE {
+        return row(which, b"  gone: ", a, d.k);
+    }
+    if d.how == NEW {
+        return row(which, b"  new: ", b, d.l);
+    }
+    changed(which, a, d.k, b, d.l);
+}
+
+// The differences of a table: whether there is one.
+fn walk(which: u64, a: &[u64; WORDS], b: &[u64; WORDS]) -> bool {
+    let t = Rows {
+        which: which,
+        i: 0,
+        j: 0,
+    };
+    let mut k: usize = 0;
+    let mut l: usize = 0;
+    let mut left = MOST_TURNS;
+    while 0 < left {
+        let d = next(t, a, b, k, l);
+        if d.how == SAME {
+            return left < MOST_TURNS;
+        }
+        row_apart(which, d, a, b);
+        k = past(d.k, d.how != NEW);
+        l = past(d.l, d.how != GONE);
         left -= 1;
     }
     true
 }
 
-fn walk_settings(a: &[u64; WORDS], b: &[u64; WORDS]) -> bool {
-    if !same_part(SETTINGS_END - SIZE, a, SIZE, b, SIZE) {
-        text(b"  was:\n");
-        show::show_settings(a);
-        text(b"  is:\n");
-        show::show_settings(b);
-        return true;
+fn changed_setting(k: usize, was: u64, is: u64) {
+    match k {
+        1 => say::row(b"  epoch # -> #", &[was, is]),
+        2 => say::row(b"  shard size # -> #", &[was, is]),
+        3 => say::row(b"  drain length # -> #", &[was, is]),
+        4 => say::row(b"  ready wait # -> #", &[was, is]),
+        5 => say::row(b"  shuffle interval # -> #", &[was, is]),
+        _ => say::row(b"  most rotations in flight # -> #", &[was, is]),
     }
-    let was = settings::epoch(a);
-    let is = settings::epoch(b);
-    if was.0 == is.0 {
-        return false;
+}
+
+fn walk_settings(a: &[u64], b: &[u64]) -> bool {
+    let mut is_one = false;
+    let mut k: usize = 1;
+    while k < 7 {
+        let was = number_at(a, k);
+        let is = number_at(b, k);
+        if was != is {
+            changed_setting(k, was, is);
+            is_one = true;
+        }
+        k += 1;
     }
-    let mut line = [0u8; WIDTH];
-    let c = put(&mut line, 0, b"  epoch ", was.0);
-    let d = put(&mut line, c, b" -> ", is.0);
-    end(&line, d);
-    true
+    is_one
 }
 
 pub(crate) fn tell(a: &[u64; WORDS], b: &[u64; WORDS]) {
     text(b"what changed:\n");
-    let s = walk_settings(a, b);
+    let s = walk_settings(facts::table(a, SETTINGS, 0), facts::table(b, SETTINGS, 0));
     let m = walk(MACHINES, a, b);
     let c = walk(COMMITTEES, a, b);
     let d = walk(BOUNDARIES, a, b);

@@ -1,7 +1,6 @@
 // Snapshots in files.
 use crate::args;
 use crate::say;
-use crate::say::WIDTH;
 
 pub const WORDS: usize = 5861;
 
@@ -29,15 +28,11 @@ fn tell_stop(path: &[u8], bytes: &[u8]) {
         );
         return;
     }
-    let mut line = [0u8; WIDTH];
-    let a = say::put(
-        &mut line,
-        0,
-        b"not a snapshot of a well-formed board; reading stopped at word ",
+    say::mistake_row(
+        b"not a snapshot of a well-formed board; reading stopped at word #: ",
         stops::stopped_at(bytes) as u64,
+        path,
     );
-    let b = say::words(&mut line, a, b": ");
-    say::mistake_at(&line, b, path);
 }
 
 fn read_path(path: &[u8], board: &mut [u64; WORDS]) -> bool {
@@ -84,22 +79,28 @@ fn put_all(path: &[u8], bytes: &[u8]) -> bool {
 }
 
 // To a new file first, and then by rename, so that a cut run never leaves half a file.
-pub(crate) fn write_board(path: &[u8], board: &[u64; WORDS]) -> bool {
-    let mut bytes = io::large_buffer();
-    let mut length: u64 = 0;
-    roster::roster_write(board, &mut bytes, &mut length);
-    let n = say::within(length as usize, &bytes);
-    let mut room = io::buffer();
-    let a = lines::put_text(&mut room, 0, path);
-    let b = lines::put_text(&mut room, a, b".new");
-    let e = say::within(b, &room);
-    if !put_all(&room[..e], &bytes[..n]) {
+fn put_at(path: &[u8], new: &[u8], bytes: &[u8]) -> bool {
+    if !put_all(new, bytes) {
         return false;
     }
-    if os::rename(&room[..e], path) != 0 {
-        os::unlink(&room[..e]);
+    if os::rename(new, path) != 0 {
+        os::unlink(new);
         say::mistake(b"the snapshot could not be put at ", path);
         return false;
     }
     true
+}
+
+fn put_bytes(path: &[u8], bytes: &[u8]) -> bool {
+    let mut room = io::buffer();
+    let a = lines::put_text(&mut room, 0, path);
+    let b = lines::put_text(&mut room, a, b".new");
+    put_at(path, lines::said(&room, b), bytes)
+}
+
+pub(crate) fn write_board(path: &[u8], board: &[u64; WORDS]) -> bool {
+    let mut bytes = io::large_buffer();
+    let mut length: u64 = 0;
+    roster::roster_write(board, &mut bytes, &mut length);
+    put_bytes(path, lines::said(&bytes, length as usize))
 }

@@ -1,19 +1,14 @@
-// Machines by their place, counted and listed.
+// Ids in lines, and machines by their place.
+use crate::facts;
 use crate::files::WORDS;
+use crate::say;
 use crate::say::WIDTH;
-use crate::say::column;
 use crate::say::end;
-use crate::say::text;
-use crate::say::words;
-use board::committees;
-use board::layout::MOST_COMMITTEES;
-use board::layout::MOST_HALF;
-use board::layout::MOST_MACHINES;
-use board::layout::MOST_MEMBERS;
-use board::layout::MOST_RESHAPES;
-use board::machines;
-use reshapes::halves;
-use types::Place;
+use sections::LEFT;
+use sections::MACHINES;
+use sections::RIGHT;
+use templates::fill;
+use templates::number_at;
 
 pub const POOLED: u64 = 0;
 
@@ -25,34 +20,45 @@ pub const SHORT: u64 = 3;
 
 pub const OTHER: u64 = 4;
 
-// The members of a committee, and a reshape's halves.
-pub const MEMBERS: u64 = 5;
-
-pub const LEFT: u64 = 6;
-
-pub const RIGHT: u64 = 7;
-
-fn kind_of(place: Place) -> u64 {
-    match place {
-        Place::Pooled => POOLED,
-        Place::Seated { .. } => SEATED,
-        Place::Observing { .. } => WATCHING,
-        Place::Short => SHORT,
-        Place::Other(_) => OTHER,
+// An id on the line, or on a new one where the line is full.
+fn put_id(line: &mut [u8; WIDTH], at: usize, id: u64) -> usize {
+    if 78 < at {
+        end(line, at);
+        return fill(line, 0, b"      ##", &[id]);
     }
+    fill(line, at, b"  ##", &[id])
 }
 
-fn is_of(board: &[u64; WORDS], i: usize, kind: u64) -> bool {
-    if MOST_MACHINES <= i {
-        return false;
+pub(crate) fn list(ids: &[u64]) {
+    let mut line = [0u8; WIDTH];
+    let mut at = say::words(&mut line, 0, b"    ");
+    let mut i: usize = 0;
+    while i < ids.len() {
+        at = put_id(&mut line, at, ids[i]);
+        i += 1;
     }
-    let m = machines::at(board, i);
-    let place = m.place;
-    kind_of(place) == kind
+    end(&line, at);
+}
+
+// Those that a scheduled split sends to its left and to its right child.
+pub(crate) fn list_halves(board: &[u64; WORDS], i: usize) {
+    if facts::count(board, LEFT, i) == 0 {
+        return;
+    }
+    say::text(b"  left half:\n");
+    list(facts::ids(board, LEFT, i));
+    say::text(b"  right half:\n");
+    list(facts::ids(board, RIGHT, i));
+}
+
+// ---- machines by their place: the second word of their row
+
+fn is_of(board: &[u64; WORDS], i: usize, kind: u64) -> bool {
+    number_at(facts::row(board, MACHINES, 0, i), 1) == kind
 }
 
 pub(crate) fn count_of(board: &[u64; WORDS], kind: u64) -> u64 {
-    let all = machines::count(board);
+    let all = facts::count(board, MACHINES, 0);
     let mut n: u64 = 0;
     let mut i: usize = 0;
     while i < all {
@@ -64,109 +70,56 @@ pub(crate) fn count_of(board: &[u64; WORDS], kind: u64) -> u64 {
     n
 }
 
-// An id on the line, or on a new one where the line is full.
-fn put_id(line: &mut [u8; WIDTH], at: usize, id: u64) -> usize {
-    if 78 < at {
-        end(line, at);
-        let a = words(line, 0, b"      ");
-        return column(line, a, 2, id);
-    }
-    let a = words(line, at, b"  ");
-    column(line, a, 2, id)
-}
-
-fn put_machine(line: &mut [u8; WIDTH], at: usize, board: &[u64; WORDS], i: usize) -> usize {
-    if MOST_MACHINES <= i {
+fn put_machine(line: &mut [u8; WIDTH], at: usize, kind: u64, row: &[u64]) -> usize {
+    if number_at(row, 1) != kind {
         return at;
     }
-    let m = machines::at(board, i);
-    let id = m.id;
-    put_id(line, at, id.0)
+    put_id(line, at, number_at(row, 0))
 }
 
-fn put_member(
-    line: &mut [u8; WIDTH],
-    at: usize,
-    board: &[u64; WORDS],
-    j: usize,
-    i: usize,
-) -> usize {
-    if MOST_COMMITTEES <= j {
-        return at;
-    }
-    if MOST_MEMBERS <= i {
-        return at;
-    }
-    let id = committees::member_at(board, j, i);
-    put_id(line, at, id.0)
-}
-
-fn put_half(
-    line: &mut [u8; WIDTH],
-    at: usize,
-    left: bool,
-    board: &[u64; WORDS],
-    j: usize,
-    i: usize,
-) -> usize {
-    if MOST_RESHAPES <= j {
-        return at;
-    }
-    if MOST_HALF <= i {
-        return at;
-    }
-    if left {
-        let id = halves::left_at(board, j, i);
-        return put_id(line, at, id.0);
-    }
-    let other = halves::right_at(board, j, i);
-    put_id(line, at, other.0)
-}
-
-fn put_item(
-    line: &mut [u8; WIDTH],
-    at: usize,
-    kind: u64,
-    board: &[u64; WORDS],
-    j: usize,
-    i: usize,
-) -> usize {
-    if kind == MEMBERS {
-        return put_member(line, at, board, j, i);
-    }
-    if MEMBERS < kind {
-        return put_half(line, at, kind == LEFT, board, j, i);
-    }
-    if is_of(board, i, kind) {
-        return put_machine(line, at, board, i);
-    }
-    at
-}
-
-// Those of a kind among n, in lines.
-pub(crate) fn list(kind: u64, board: &[u64; WORDS], j: usize, n: usize) {
+fn list_ids(kind: u64, board: &[u64; WORDS]) {
+    let n = facts::count(board, MACHINES, 0);
     let mut line = [0u8; WIDTH];
-    let mut at = words(&mut line, 0, b"    ");
+    let mut at = say::words(&mut line, 0, b"    ");
     let mut i: usize = 0;
     while i < n {
-        at = put_item(&mut line, at, kind, board, j, i);
+        at = put_machine(&mut line, at, kind, facts::row(board, MACHINES, 0, i));
         i += 1;
     }
     end(&line, at);
 }
 
-// Those that a scheduled split sends to its left and to its right child.
-pub(crate) fn list_halves(board: &[u64; WORDS], i: usize) {
-    if MOST_RESHAPES <= i {
+fn machine(kind: u64, row: &[u64]) {
+    if number_at(row, 1) != kind {
         return;
     }
-    let left = halves::left_count(board, i);
-    let right = halves::right_count(board, i);
-    if left == 0 {
+    if kind == WATCHING {
+        return say::row(
+            b"  ####################~  watches shard #####~  stamp ##########",
+            row,
+        );
+    }
+    say::row(b"  ####################~  mark ###", row);
+}
+
+fn list_rows(kind: u64, board: &[u64; WORDS]) {
+    let n = facts::count(board, MACHINES, 0);
+    let mut i: usize = 0;
+    while i < n {
+        machine(kind, facts::row(board, MACHINES, 0, i));
+        i += 1;
+    }
+}
+
+// Those of a kind, after their number: ids alone, or a line for each with what it watches or its mark.
+pub(crate) fn kind(template: &[u8], kind: u64, board: &[u64; WORDS]) {
+    let n = count_of(board, kind);
+    say::row(template, &[n]);
+    if n == 0 {
         return;
     }
-    text(b"  left half:\n");
-    list(LEFT, board, i, left);
-    text(b"  right half:\n");
-    list(RIGHT, board, i, right);
+    if (kind == WATCHING) | (kind == OTHER) {
+        return list_rows(kind, board);
+    }
+    list_ids(kind, board);
 }

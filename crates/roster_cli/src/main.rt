@@ -4,6 +4,7 @@ mod calls;
 mod checks;
 mod demo;
 mod diffs;
+mod facts;
 mod files;
 mod help;
 mod lists;

@@ -2,33 +2,33 @@
 use libc::STDOUT_FILENO;
 use lines::put_number;
 use lines::put_text;
-ghost use Rattle.io.specs.Counts.{Counts};
 
 pub const WIDTH: usize = 100;
-
-// A place in the room, or its end.
-pub(crate) fn within(at: usize, room: &[u8]) -> usize
-    ensures { λ r. ⌜ Counts r (now (room .entry)) ⌝ }
-{
-    if room.len() < at {
-        return room.len();
-    }
-    at
-}
 
 pub(crate) fn text(words: &[u8]) {
     io::write_all(STDOUT_FILENO, words);
 }
 
-fn write(line: &[u8], at: usize) {
-    let n = within(at, line);
-    io::write_all(STDOUT_FILENO, &line[..n]);
-    io::write_all(STDOUT_FILENO, b"\n");
+fn close(line: &[u8], at: usize) {
+    text(lines::said(line, at));
+    text(b"\n");
 }
 
-// What is laid of the line, and a line end. Lines go by arrays here, whose length no caller has to show.
+// What is laid of the line, and a line end.
 pub(crate) fn end(line: &[u8; WIDTH], at: usize) {
-    write(line, at);
+    close(line, at);
+}
+
+// A line: what stands before, and a template with its numbers.
+pub(crate) fn after(before: &[u8], template: &[u8], numbers: &[u64]) {
+    let mut line = [0u8; WIDTH];
+    let a = put_text(&mut line, 0, before);
+    let n = templates::fill(&mut line, a, template, numbers);
+    close(&line, n);
+}
+
+pub(crate) fn row(template: &[u8], numbers: &[u64]) {
+    after(b"", template, numbers);
 }
 
 pub(crate) fn words(line: &mut [u8; WIDTH], at: usize, words: &[u8]) -> usize {
@@ -54,12 +54,9 @@ pub(crate) fn mistake(what: &[u8], word: &[u8]) {
     text(b"\n");
 }
 
-fn mistake_within(line: &[u8], at: usize, word: &[u8]) {
-    let n = within(at, line);
-    mistake(&line[..n], word);
-}
-
-// A mistake that is laid in a line.
-pub(crate) fn mistake_at(line: &[u8; WIDTH], at: usize, word: &[u8]) {
-    mistake_within(line, at, word);
+// A mistake with a number in it.
+pub(crate) fn mistake_row(template: &[u8], n: u64, word: &[u8]) {
+    let mut line = [0u8; WIDTH];
+    let at = templates::fill(&mut line, 0, template, &[n]);
+    mistake(lines::said(&line, at), word);
 }

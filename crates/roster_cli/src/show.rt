@@ -1,261 +1,214 @@
 // `show`: the roster as people read it.
 use crate::args;
+use crate::facts;
 use crate::files;
 use crate::files::WORDS;
 use crate::lists;
+use crate::lists::OTHER;
+use crate::lists::POOLED;
+use crate::lists::SEATED;
+use crate::lists::SHORT;
+use crate::lists::WATCHING;
 use crate::rows_of;
-use crate::rows_of::INSIDE_MEMBERS;
-use crate::rows_of::INSIDE_SEATS;
+use crate::say;
 use crate::say::WIDTH;
-use crate::say::column;
 use crate::say::end;
-use crate::say::put;
 use crate::say::text;
 use crate::say::words;
-use board::committees;
-use board::layout::MOST_COMMITTEES;
-use board::layout::MOST_RESHAPES;
-use board::machines;
-use board::settings;
-use drains::Whose;
-use reshapes::fields;
-use reshapes::seats as cohort;
-use shards::bounds;
-use shards::rotations;
-use types::ShardId;
+use sections::COMMITTEES;
+use sections::MACHINES;
+use sections::RESHAPES;
+use sections::SEATS;
+use sections::SETTINGS;
+use templates::number_at;
 
-pub(crate) fn show_settings(board: &[u64; WORDS]) {
-    let epoch = settings::epoch(board);
-    let mut line = [0u8; WIDTH];
-    let a = put(&mut line, 0, b"epoch ", epoch.0);
-    let b = put(&mut line, a, b"; shard size ", settings::shard_size(board));
-    let c = put(&mut line, b, b", quorum ", waits::quorum(board));
-    let d = put(
-        &mut line,
-        c,
-        b"; drain length ",
-        settings::drain_length(board),
+fn settings(board: &[u64; WORDS]) {
+    let s = facts::table(board, SETTINGS, 0);
+    say::row(
+        b"epoch #; shard size #, quorum #",
+        &[number_at(s, 1), number_at(s, 2), facts::quorum(board)],
     );
-    let e = put(&mut line, d, b"; ready wait ", settings::ready_wait(board));
-    end(&line, e);
-    let mut rest = [0u8; WIDTH];
-    let f = put(
-        &mut rest,
-        0,
-        b"shuffle interval ",
-        settings::shuffle_interval(board),
+    say::row(
+        b"~~~drain length #; ready wait #; shuffle interval #; most rotations in flight #",
+        s,
     );
-    let g = put(
-        &mut rest,
-        f,
-        b"; most rotations in flight ",
-        settings::most_in_flight(board),
-    );
-    end(&rest, g);
 }
 
-fn show_totals(board: &[u64; WORDS]) {
-    let mut line = [0u8; WIDTH];
-    let a = put(&mut line, 0, b"\nmachines: ", machines::count(board) as u64);
-    let b = put(
-        &mut line,
-        a,
-        b": seated ",
-        lists::count_of(board, lists::SEATED),
+fn totals(board: &[u64; WORDS]) {
+    say::row(
+        b"\nmachines: #: seated #, watching #, pooled #, short of stake #, other #",
+        &[
+            facts::count(board, MACHINES, 0) as u64,
+            lists::count_of(board, SEATED),
+            lists::count_of(board, WATCHING),
+            lists::count_of(board, POOLED),
+            lists::count_of(board, SHORT),
+            lists::count_of(board, OTHER),
+        ],
     );
-    let c = put(
-        &mut line,
-        b,
-        b", watching ",
-        lists::count_of(board, lists::WATCHING),
-    );
-    let d = put(
-        &mut line,
-        c,
-        b", pooled ",
-        lists::count_of(board, lists::POOLED),
-    );
-    let e = put(
-        &mut line,
-        d,
-        b", short of stake ",
-        lists::count_of(board, lists::SHORT),
-    );
-    let f = put(
-        &mut line,
-        e,
-        b", other ",
-        lists::count_of(board, lists::OTHER),
-    );
-    end(&line, f);
 }
 
 // One committee, with its members.
-fn show_committee(board: &[u64; WORDS], j: usize) {
-    if MOST_COMMITTEES <= j {
-        return;
-    }
-    let shard = committees::shard_at(board, j);
-    let n = committees::member_count(board, j);
-    let on = waits::members_on(board, shard);
-    let mut line = [0u8; WIDTH];
-    let a = put(&mut line, 0, b"\nshard ", shard.0);
-    let b = put(&mut line, a, b": members ", n as u64);
-    let c = put(&mut line, b, b", seated ", on.seated as u64);
-    let d = put(&mut line, c, b", ready ", on.ready as u64);
-    end(&line, d);
-    rows_of::each(INSIDE_MEMBERS, board, j, n);
+fn committee(board: &[u64; WORDS], j: usize) {
+    let row = facts::row(board, COMMITTEES, 0, j);
+    let shard = number_at(row, 0);
+    let n = number_at(row, 1);
+    say::row(
+        b"\nshard #: members #, seated #, ready #",
+        &[
+            shard,
+            n,
+            facts::seated(board, shard),
+            facts::ready(board, shard),
+        ],
+    );
+    rows_of::each(rows_of::INSIDE_MEMBERS, board, j, n as usize);
 }
 
-fn show_child(board: &[u64; WORDS], i: usize, child: ShardId, half: u64) {
-    if MOST_RESHAPES <= i {
-        return;
-    }
-    let quorum = waits::quorum(board);
-    let ready = drains::ready_seats(board, i, Whose::Of(child)) as u64;
-    let mut line = [0u8; WIDTH];
-    let a = put(&mut line, 0, b"  child ", child.0);
-    let b = put(
-        &mut line,
-        a,
-        b": seats ",
-        waits::seats_for(board, i, child) as u64,
-    );
-    let c = put(&mut line, b, b", ready ", ready);
+// ---- what a reshape that is not scheduled waits for
+
+fn tell_child(child: u64, seats: u64, ready: u64, quorum: u64, half: u64) {
     if quorum <= ready {
-        let d = put(&mut line, c, b": they reach the quorum of ", quorum);
-        end(&line, d);
-        return;
+        return say::row(
+            b"  child #: seats #, ready #: they reach the quorum of #",
+            &[child, seats, ready, quorum],
+        );
     }
-    let e = put(
-        &mut line,
-        c,
-        b"; for the quorum it waits for ready members in its half: ",
-        quorum - ready,
+    say::row(
+        b"  child #: seats #, ready #; for the quorum it waits for ready members in its half: # of #",
+        &[child, seats, ready, quorum - ready, half],
     );
-    let f = put(&mut line, e, b" of ", half);
-    end(&line, f);
 }
 
-fn show_split(board: &[u64; WORDS], i: usize, target: ShardId) {
-    if 32767 < target.0 {
-        return;
-    }
-    let left = target.left();
-    let right = target.right();
-    let on = waits::members_on(board, target);
-    show_child(board, i, left, ((on.seated + 1) / 2) as u64);
-    show_child(board, i, right, (on.seated / 2) as u64);
+fn child(board: &[u64; WORDS], i: usize, child: u64, half: u64) {
+    tell_child(
+        child,
+        facts::seats(board, i, child),
+        facts::ready_seats(board, i, child),
+        facts::quorum(board),
+        half,
+    );
 }
 
-fn show_merge(board: &[u64; WORDS], i: usize) {
-    if MOST_RESHAPES <= i {
+// A left half has n/2 rounded up.
+fn children(board: &[u64; WORDS], i: usize, target: u64) {
+    if 32767 < target {
         return;
     }
+    let n = facts::seated(board, target);
+    child(board, i, 2 * target, n - n / 2);
+    child(board, i, 2 * target + 1, n / 2);
+}
+
+fn keepers(board: &[u64; WORDS], i: usize, quorum: u64) {
+    let ready = facts::ready_keepers(board, i);
+    let n = facts::count(board, SEATS, i) as u64;
+    if quorum <= ready {
+        return say::row(
+            b"  keepers #, ready #: they reach the quorum of #",
+            &[n, ready, quorum],
+        );
+    }
+    say::row(
+        b"  keepers #, ready #; for the quorum it waits for ready keepers: #",
+        &[n, ready, quorum - ready],
+    );
+}
+
+fn gate(board: &[u64; WORDS], i: usize) {
+    let row = facts::row(board, RESHAPES, 0, i);
+    let is_scheduled = number_at(row, 5) == 1;
+    if is_scheduled {
+        return;
+    }
+    let is_merge = number_at(row, 1) == 1;
+    if is_merge {
+        return keepers(board, i, facts::quorum(board));
+    }
+    children(board, i, number_at(row, 0));
+}
+
+pub(crate) fn reshape_head(before: &[u8], board: &[u64; WORDS], i: usize) {
+    let row = facts::row(board, RESHAPES, 0, i);
+    if number_at(row, 1) == 1 {
+        return say::after(before, b"merge to shard #~, admitted at #", row);
+    }
+    say::after(before, b"split of shard #~, admitted at #", row);
+}
+
+pub(crate) fn reshape_state(before: &[u8], board: &[u64; WORDS], i: usize) {
     let mut line = [0u8; WIDTH];
-    let a = put(&mut line, 0, b"  keepers ", cohort::count(board, i) as u64);
-    let b = put(
-        &mut line,
-        a,
-        b", ready ",
-        drains::ready_seats(board, i, Whose::All) as u64,
-    );
-    let c = put(&mut line, b, b"; the quorum is ", waits::quorum(board));
-    end(&line, c);
-}
-
-fn show_waits(board: &[u64; WORDS], i: usize) {
-    if MOST_RESHAPES <= i {
-        return;
-    }
-    if fields::is_scheduled(board, i) {
-        return;
-    }
-    if fields::is_merge(board, i) {
-        return show_merge(board, i);
-    }
-    show_split(board, i, fields::target_at(board, i));
+    let a = words(&mut line, 0, before);
+    let b = rows_of::put_reshape_state(&mut line, a, board, i);
+    end(&line, b);
 }
 
 // One reshape: what it is, what it waits for, its seats and its halves.
-fn show_reshape(board: &[u64; WORDS], i: usize) {
-    if MOST_RESHAPES <= i {
-        return;
-    }
-    let mut line = [0u8; WIDTH];
-    let a = rows_of::put_reshape(&mut line, 0, board, i);
+fn reshape(board: &[u64; WORDS], i: usize) {
     text(b"\n");
-    end(&line, a);
-    let mut more = [0u8; WIDTH];
-    let b = words(&mut more, 0, b"  ");
-    let c = rows_of::put_reshape_state(&mut more, b, board, i);
-    end(&more, c);
-    show_waits(board, i);
-    rows_of::each(INSIDE_SEATS, board, i, cohort::count(board, i));
+    reshape_head(b"", board, i);
+    reshape_state(b"  ", board, i);
+    gate(board, i);
+    rows_of::each(
+        rows_of::INSIDE_SEATS,
+        board,
+        i,
+        facts::count(board, SEATS, i),
+    );
     lists::list_halves(board, i);
 }
 
-const COMMITTEES: u64 = 0;
+// ---- the whole
 
-const RESHAPES: u64 = 1;
-
-fn show_each(what: u64, board: &[u64; WORDS], n: usize) {
+fn each(which: u64, board: &[u64; WORDS]) {
+    let n = facts::count(board, which, 0);
     let mut i: usize = 0;
     while i < n {
-        if what == COMMITTEES {
-            show_committee(board, i);
+        if which == COMMITTEES {
+            committee(board, i);
         } else {
-            show_reshape(board, i);
+            reshape(board, i);
         }
         i += 1;
     }
 }
 
-fn show_kind(name: &[u8], kind: u64, board: &[u64; WORDS]) {
-    let n = lists::count_of(board, kind);
-    let mut line = [0u8; WIDTH];
-    let a = words(&mut line, 0, name);
-    let b = column(&mut line, a, 0, n);
-    end(&line, b);
-    if 0 < n {
-        lists::list(kind, board, 0, machines::count(board));
-    }
-}
-
-fn show_rows(name: &[u8], kind: u64, board: &[u64; WORDS], n: usize) {
-    let mut line = [0u8; WIDTH];
-    let a = put(&mut line, 0, name, n as u64);
-    end(&line, a);
+fn rows(template: &[u8], kind: u64, which: u64, board: &[u64; WORDS]) {
+    let n = facts::count(board, which, 0);
+    say::row(template, &[n as u64]);
     rows_of::each(kind, board, 0, n);
 }
 
-pub(crate) fn tell(board: &[u64; WORDS]) {
-    show_settings(board);
-    show_each(COMMITTEES, board, committees::count(board));
-    show_totals(board);
-    show_kind(b"pool: ", lists::POOLED, board);
-    show_kind(b"watching: ", lists::WATCHING, board);
-    show_kind(b"short of stake: ", lists::SHORT, board);
-    show_kind(b"other: ", lists::OTHER, board);
-    show_rows(
-        b"rotations: ",
+fn places(board: &[u64; WORDS]) {
+    totals(board);
+    lists::kind(b"pool: #", POOLED, board);
+    lists::kind(b"watching: #", WATCHING, board);
+    lists::kind(b"short of stake: #", SHORT, board);
+    lists::kind(b"other: #", OTHER, board);
+}
+
+fn tables(board: &[u64; WORDS]) {
+    rows(
+        b"rotations: #",
         rows_of::ROTATIONS,
+        sections::ROTATIONS,
         board,
-        rotations::count(board),
     );
-    show_rows(
-        b"boundaries: ",
+    rows(
+        b"boundaries: #",
         rows_of::BOUNDARIES,
+        sections::BOUNDARIES,
         board,
-        bounds::count(board),
     );
-    show_rows(
-        b"reshapes: ",
-        rows_of::NOTHING_MORE,
-        board,
-        fields::count(board),
-    );
-    show_each(RESHAPES, board, fields::count(board));
+    rows(b"reshapes: #", rows_of::NOTHING_MORE, RESHAPES, board);
+}
+
+pub(crate) fn tell(board: &[u64; WORDS]) {
+    settings(board);
+    each(COMMITTEES, board);
+    places(board);
+    tables(board);
+    each(RESHAPES, board);
 }
 
 pub(crate) fn run() {

@@ -18,18 +18,28 @@ const MOST_DRAWS: usize = 4096;
 // More than fit: a mistake was told.
 const NOT_TAKEN: usize = 4097;
 
-// What stands after a step's numbers: how many draws, and where the name of the new file stands; 0 where there is none.
+// What a word belongs to: nothing, the draws, the name of the new file.
+const NOTHING: u64 = 0;
+
+const DRAWS: u64 = 1;
+
+const OUT: u64 = 2;
+
+// What stands after a step's numbers: how many draws, where the name of the new file stands (0 where there is none), and what
+// the next word belongs to.
 pub struct Options {
     pub good: bool,
     pub draws: usize,
     pub out: usize,
+    pub of: u64,
 }
 
-fn bad() -> Options {
+fn with_options(good: bool, draws: usize, out: usize, of: u64) -> Options {
     Options {
-        good: false,
-        draws: 0,
-        out: 0,
+        good: good,
+        draws: draws,
+        out: out,
+        of: of,
     }
 }
 
@@ -92,59 +102,69 @@ fn is_written_out(word: &[u8]) -> bool {
     (b'0' <= word[0]) & (word[0] <= b'9')
 }
 
+fn add_written(word: &[u8], draws: &mut [u64; MOST_DRAWS], n: usize) -> usize {
+    if is_written_out(word) {
+        let read = numbers_after(word, draws, n);
+        return counted(read, n, word);
+    }
+    add_file(word, draws, n)
+}
+
 // The draws that the word at i says, or the file that it names.
 fn add_draws(i: usize, draws: &mut [u64; MOST_DRAWS], n: usize) -> usize {
     let mut room = io::buffer();
     let k = os::arg(i, &mut room);
-    if is_written_out(&room[..k]) {
-        let read = numbers_after(&room[..k], draws, n);
-        return counted(read, n, &room[..k]);
-    }
-    add_file(&room[..k], draws, n)
+    add_written(&room[..k], draws, n)
 }
 
-// What a word belongs to: nothing, the draws, the name of the new file.
-const NOTHING: u64 = 0;
+fn option_at(i: usize) -> u64 {
+    if args::is(i, b"--draws") {
+        return DRAWS;
+    }
+    if args::is(i, b"--out") {
+        return OUT;
+    }
+    NOTHING
+}
 
-const DRAWS: u64 = 1;
+// With the word at i, which is no option's name.
+fn with_word(o: Options, i: usize, draws: &mut [u64; MOST_DRAWS]) -> Options {
+    if o.of == DRAWS {
+        let n = add_draws(i, draws, o.draws);
+        return with_options(n != NOT_TAKEN, n, o.out, DRAWS);
+    }
+    if o.of == OUT {
+        return with_options(true, o.draws, i, NOTHING);
+    }
+    args::mistake(i, b"one argument too many: ");
+    with_options(false, 0, 0, NOTHING)
+}
 
-const OUT: u64 = 2;
+fn with_next(o: Options, i: usize, draws: &mut [u64; MOST_DRAWS]) -> Options {
+    let of = option_at(i);
+    if of == NOTHING {
+        return with_word(o, i, draws);
+    }
+    with_options(true, o.draws, o.out, of)
+}
 
 // The words from `from` on; a mistake is told.
 fn taken(from: usize, draws: &mut [u64; MOST_DRAWS]) -> Options {
     let count = os::arg_count();
+    let mut o = with_options(true, 0, 0, NOTHING);
     let mut i = from;
-    let mut n: usize = 0;
-    let mut out: usize = 0;
-    let mut of = NOTHING;
     while i < count {
-        if args::is(i, b"--draws") {
-            of = DRAWS;
-        } else if args::is(i, b"--out") {
-            of = OUT;
-        } else if of == DRAWS {
-            n = add_draws(i, draws, n);
-            if n == NOT_TAKEN {
-                return bad();
-            }
-        } else if of == OUT {
-            out = i;
-            of = NOTHING;
-        } else {
-            args::mistake(i, b"one argument too many: ");
-            return bad();
+        o = with_next(o, i, draws);
+        if !o.good {
+            return o;
         }
         i += 1;
     }
-    if of == OUT {
+    if o.of == OUT {
         say::mistake(b"a file's name is missing after --out", b"");
-        return bad();
+        return with_options(false, 0, 0, NOTHING);
     }
-    Options {
-        good: true,
-        draws: n,
-        out: out,
-    }
+    o
 }
 
 // The number at i where the step takes so many; a mistake is told.
@@ -162,16 +182,17 @@ fn number(i: usize, wanted: bool) -> Numeral {
     args::number(i)
 }
 
-pub(crate) fn tell(answer: u64, results: &[u64; 2]) {
+fn tell_answer(answer: u64) {
     let mut line = [0u8; WIDTH];
     let a = put(&mut line, 0, b"answer ", answer);
     let b = say::words(&mut line, a, b": ");
     let c = words::put_answer(&mut line, b, answer);
     say::end(&line, c);
-    let mut counts = [0u8; WIDTH];
-    let d = put(&mut counts, 0, b"handled ", results[0]);
-    let e = put(&mut counts, d, b", draws used ", results[1]);
-    say::end(&counts, e);
+}
+
+pub(crate) fn tell(answer: u64, results: &[u64; 2]) {
+    tell_answer(answer);
+    say::row(b"handled #, draws used #", results);
 }
 
 // Written where the step is done, and where a step over several shards was refused at one: those before it stand.
