@@ -9,6 +9,10 @@ use crate::trying;
 // ---- the boards, as the words of a snapshot, each in a byte: epoch 5, D 2, W 3, interval 10, most 2 in flight; shard 1 with its
 // members seated and ready, its boundary, and as many machines in the pool
 
+fn read(bytes: &[u8], size: usize, board: &mut [u64; WORDS]) {
+    roster::roster_read(lines::said(bytes, size), board);
+}
+
 fn load(words: &[u8], size: usize, board: &mut [u64; WORDS]) {
     let mut bytes = [0u8; 1024];
     let mut i: usize = 0;
@@ -18,7 +22,7 @@ fn load(words: &[u8], size: usize, board: &mut [u64; WORDS]) {
         }
         i += 1;
     }
-    roster::roster_read(lines::said(&bytes, size), board);
+    read(&bytes, size, board);
 }
 
 // S is 4: members 11 to 14, and 21 to 24 in the pool.

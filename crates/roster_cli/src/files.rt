@@ -91,16 +91,21 @@ fn put_at(path: &[u8], new: &[u8], bytes: &[u8]) -> bool {
     true
 }
 
-fn put_bytes(path: &[u8], bytes: &[u8]) -> bool {
+// The new file's name is so much of `room`, its bytes so many of `bytes`.
+fn put_said(path: &[u8], room: &[u8], n: usize, bytes: &[u8], length: usize) -> bool {
+    put_at(path, lines::said(room, n), lines::said(bytes, length))
+}
+
+fn put_bytes(path: &[u8], bytes: &[u8], length: usize) -> bool {
     let mut room = io::buffer();
     let a = lines::put_text(&mut room, 0, path);
     let b = lines::put_text(&mut room, a, b".new");
-    put_at(path, lines::said(&room, b), bytes)
+    put_said(path, &room, b, bytes, length)
 }
 
 pub(crate) fn write_board(path: &[u8], board: &[u64; WORDS]) -> bool {
     let mut bytes = io::large_buffer();
     let mut length: u64 = 0;
     roster::roster_write(board, &mut bytes, &mut length);
-    put_bytes(path, lines::said(&bytes, length as usize))
+    put_bytes(path, &bytes, length as usize)
 }

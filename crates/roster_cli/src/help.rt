@@ -1,47 +1,47 @@
 // What the command can do.
 use crate::say::text;
 
+fn tell_commands() {
+    text(
+        b"./roster                      the demo\n\
+          ./roster demo                 a built-in board, from a split's admission to its cut\n\
+          ./roster show FILE            the roster of a snapshot, as people read it\n\
+          ./roster check FILE           the seat check: yes, or each clause that fails and who breaks it\n\
+          ./roster diff FILE FILE       what changed between two snapshots\n\
+          ./roster step FILE NAME ARGS [--draws FILE or numbers] [--out FILE]\n\
+          \x20                             a step on a snapshot: its answer, and what changed; the new\n\
+          \x20                             snapshot is written only with --out\n\
+          ./roster help                 this\n",
+    );
+}
+
 fn tell_steps() {
     text(
-        b"\nThe steps of `./roster step FILE NAME`, with the numbers and draws that each takes:\n",
+        b"\nThe steps of `./roster step FILE NAME`, with the numbers and draws that each takes:\n\
+          \x20 tick                              the epoch plus one\n\
+          \x20 time_out                          waiting machines at their deadline become ready\n\
+          \x20 admit_split TARGET                a split is admitted\n\
+          \x20 draw_cohort TARGET --draws ..     its cohort is drawn from the pool\n\
+          \x20 mark_seat_ready TARGET MACHINE    a seat of a reshape is ready\n\
+          \x20 mark_quiet TARGET SIDE            a reshape is quiet on side 0 or 1\n\
+          \x20 lapse TARGET                      a split's cohort goes back to the pool\n\
+          \x20 schedule_splits --draws ..        splits that are due drain, then get a terminal\n\
+          \x20 cut_splits                        splits at their terminal are cut\n\
+          \x20 admit_merge TARGET --draws ..     a merge is admitted, and its keepers are drawn\n\
+          \x20 schedule_merges                   the same for merges\n\
+          \x20 cut_merges                        merges at their terminal are cut\n\
+          \x20 leave MACHINE --draws ..          a machine falls short of stake\n\
+          \x20 rotate SHARD MACHINE --draws ..   a rotation opens against a machine\n\
+          \x20 resolve                           rotations with a ready entrant close\n",
     );
-    text(b"  tick                              the epoch plus one\n");
-    text(b"  time_out                          waiting machines at their deadline become ready\n");
-    text(b"  admit_split TARGET                a split is admitted\n");
-    text(b"  draw_cohort TARGET --draws ..     its cohort is drawn from the pool\n");
-    text(b"  mark_seat_ready TARGET MACHINE    a seat of a reshape is ready\n");
-    text(b"  mark_quiet TARGET SIDE            a reshape is quiet on side 0 or 1\n");
-    text(b"  lapse TARGET                      a split's cohort goes back to the pool\n");
-    text(b"  schedule_splits --draws ..        splits that are due drain, then get a terminal\n");
-    text(b"  cut_splits                        splits at their terminal are cut\n");
-    text(b"  admit_merge TARGET --draws ..     a merge is admitted, and its keepers are drawn\n");
-    text(b"  schedule_merges                   the same for merges\n");
-    text(b"  cut_merges                        merges at their terminal are cut\n");
-    text(b"  leave MACHINE --draws ..          a machine falls short of stake\n");
-    text(b"  rotate SHARD MACHINE --draws ..   a rotation opens against a machine\n");
-    text(b"  resolve                           rotations with a ready entrant close\n");
 }
 
 pub(crate) fn tell() {
-    text(b"./roster                      the demo\n");
-    text(b"./roster demo                 a built-in board, from a split's admission to its cut\n");
-    text(b"./roster show FILE            the roster of a snapshot, as people read it\n");
-    text(
-        b"./roster check FILE           the seat check: yes, or each clause that fails and who breaks it\n",
-    );
-    text(b"./roster diff FILE FILE       what changed between two snapshots\n");
-    text(b"./roster step FILE NAME ARGS [--draws FILE or numbers] [--out FILE]\n");
-    text(
-        b"                              a step on a snapshot: its answer, and what changed; the new\n",
-    );
-    text(b"                              snapshot is written only with --out\n");
-    text(b"./roster help                 this\n");
+    tell_commands();
     tell_steps();
     text(
-        b"\nDraws are numbers with blanks, commas or line ends between them; a word that begins with no\n",
+        b"\nDraws are numbers with blanks, commas or line ends between them; a word that begins with no\n\
+          digit is the name of a file of them. A line that begins with 'mistake: ' says what was wrong;\n\
+          nothing is written then, and the command's status is 2.\n",
     );
-    text(
-        b"digit is the name of a file of them. A line that begins with 'mistake: ' says what was wrong;\n",
-    );
-    text(b"nothing is written then, and the command's status is 2.\n");
 }

@@ -4,6 +4,7 @@ use crate::files::WORDS;
 use crate::say;
 use crate::say::WIDTH;
 use crate::say::end;
+use board::layout::MACHINE_WIDTH;
 use sections::LEFT;
 use sections::MACHINES;
 use sections::RIGHT;
@@ -53,21 +54,8 @@ pub(crate) fn list_halves(board: &[u64; WORDS], i: usize) {
 
 // ---- machines by their place: the second word of their row
 
-fn is_of(board: &[u64; WORDS], i: usize, kind: u64) -> bool {
-    number_at(facts::row(board, MACHINES, 0, i), 1) == kind
-}
-
 pub(crate) fn count_of(board: &[u64; WORDS], kind: u64) -> u64 {
-    let all = facts::count(board, MACHINES, 0);
-    let mut n: u64 = 0;
-    let mut i: usize = 0;
-    while i < all {
-        if is_of(board, i, kind) {
-            n = std::num::wrapping_add_u64(n, 1);
-        }
-        i += 1;
-    }
-    n
+    sections::count_with(facts::table(board, MACHINES, 0), MACHINE_WIDTH, 1, kind) as u64
 }
 
 fn put_machine(line: &mut [u8; WIDTH], at: usize, kind: u64, row: &[u64]) -> usize {

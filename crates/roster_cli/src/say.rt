@@ -54,9 +54,13 @@ pub(crate) fn mistake(what: &[u8], word: &[u8]) {
     text(b"\n");
 }
 
+fn mistake_within(line: &[u8], at: usize, word: &[u8]) {
+    mistake(lines::said(line, at), word);
+}
+
 // A mistake with a number in it.
 pub(crate) fn mistake_row(template: &[u8], n: u64, word: &[u8]) {
     let mut line = [0u8; WIDTH];
     let at = templates::fill(&mut line, 0, template, &[n]);
-    mistake(lines::said(&line, at), word);
+    mistake_within(&line, at, word);
 }

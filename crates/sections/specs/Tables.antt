@@ -1,8 +1,8 @@
 -- The tables of a board by number: how wide their rows are, and where they stand in the words.
-use Prim.Native.Nat.{ℕ, _+_, _*_, _-_}
+use Prim.Native.Nat.{ℕ, zero, suc, _+_, _*_, _-_}
 use mathlib.Core.Bool.{cond}
 use mathlib.Core.List.{List, [], _∷_}
-use lib.Dec.{ltb, leb}
+use lib.Dec.{eqb, ltb, leb}
 use lib.ListN.{length, take, drop, getD}
 use Rattle.rules.specs.Board.{mostCommittees, mostMembers, mostReshapes, mostSeats, mostHalf}
 use Rattle.board.specs.Layout.{machineWidth, committeeWidth, boundaryWidth, rotationWidth, reshapeWidth, seatWidth, membersAt, seatsAt, leftAt, rightAt, machinesAt, committeesAt, boundsAt, rotationsAt, reshapesAt, boardSize}
@@ -48,3 +48,8 @@ rowIn w i t = cond (leb (1 + i * w + w) (length t)) (take w (drop (1 + i * w) t)
 
 unfoldable pub idsIn : List ℕ → List ℕ
 idsIn t = cond (ltb (getD t 0 0) (length t)) (take (getD t 0 0) (drop 1 t)) []
+
+-- of the first n rows, how many have x as their word k
+unfoldable pub countIn : ℕ → ℕ → ℕ → List ℕ → ℕ → ℕ
+countIn w k x t zero = 0
+countIn w k x t (suc n) = countIn w k x t n + cond (eqb (getD (rowIn w n t) k 0) x) 1 0

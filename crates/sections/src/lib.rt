@@ -20,11 +20,12 @@ use board::layout::ROTATIONS_AT;
 use board::layout::SEAT_WIDTH;
 use board::layout::SEATS_AT;
 use board::layout::SEATS_SIZE;
+use templates::number_at;
 ghost use mathlib.Core.Path.{_≡_};
 ghost use Prim.Native.Nat.{_+_, _≤_};
 ghost use lib.ListN.{length, getD};
 ghost use Rattle.board.specs.Layout.{boardSize, reshapeWidth};
-ghost use Rattle.sections.specs.Tables.{widths, membersSpan, reshapeSpan, spanOf, tableIn, rowIn, idsIn};
+ghost use Rattle.sections.specs.Tables.{widths, membersSpan, reshapeSpan, spanOf, tableIn, rowIn, idsIn, countIn};
 
 pub const MACHINES: u64 = 0;
 
@@ -172,4 +173,20 @@ pub fn ids(t: &[u64]) -> &[u64]
     }
     let e = n + 1;
     &t[1..e]
+}
+
+// How many rows have x as their word k.
+pub fn count_with(t: &[u64], w: usize, k: usize, x: u64) -> usize
+    ensures { λ r. ⌜ r ≡ countIn w k x (now (t .entry)) (getD (now (t .entry)) 0 0) ⌝ }
+{
+    let all = number_at(t, 0) as usize;
+    let mut n: usize = 0;
+    let mut i: usize = 0;
+    while i < all {
+        if number_at(row(t, w, i), k) == x {
+            n += 1;
+        }
+        i += 1;
+    }
+    n
 }

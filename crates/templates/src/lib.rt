@@ -2,9 +2,11 @@
 use lines::put_number;
 use lines::put_text;
 ghost use mathlib.Core.Path.{_≡_};
-ghost use lib.ListN.{getD};
+ghost use Prim.Native.Nat.{_+_, _≤_};
+ghost use lib.ListN.{length, drop, getD};
 ghost use Rattle.lines.specs.Says.{Puts};
 ghost use Rattle.templates.specs.Filled.{filled};
+ghost use Rattle.templates.specs.Lines.{firstLine, lineOf};
 
 // 0 where they have run out.
 pub fn number_at(numbers: &[u64], k: usize) -> u64
@@ -45,4 +47,36 @@ pub fn fill(line: &mut [u8], at: usize, template: &[u8], numbers: &[u64]) -> usi
         return a;
     }
     put_number(line, a, w, number_at(numbers, k))
+}
+
+fn line_end(text: &[u8], at: usize) -> usize
+    requires { ⌜ at ≤ length (now text) ⌝ }
+    ensures { λ r. ⌜ (r ≤ length (now (text .entry))) × (r ≡ at + length (firstLine (drop at (now (text .entry))))) ⌝ }
+{
+    let mut e = at;
+    while e < text.len() {
+        if text[e] == b'\n' {
+            return e;
+        }
+        e += 1;
+    }
+    e
+}
+
+// Line k of a text, from 0 on; nothing past its last.
+pub fn line_at(text: &[u8], k: usize) -> &[u8]
+    ensures { λ r. ⌜ now r ≡ lineOf k (now (text .entry)) ⌝ }
+{
+    let mut s: usize = 0;
+    let mut left = k;
+    while 0 < left {
+        let e = line_end(text, s);
+        if e == text.len() {
+            return &text[..0];
+        }
+        s = e + 1;
+        left -= 1;
+    }
+    let e = line_end(text, s);
+    &text[s..e]
 }
