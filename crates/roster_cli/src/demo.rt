@@ -2,6 +2,7 @@
 use crate::calls;
 use crate::diffs;
 use crate::files::WORDS;
+use crate::say;
 use crate::say::text;
 use crate::show;
 use crate::trying;
@@ -84,48 +85,30 @@ fn make(k: u64, order: &[u64], board: &mut [u64; WORDS], results: &mut [u64; 2])
     calls::make(step, 1, seat_at(k), board, &[0, 0, 0, 0], results)
 }
 
-fn tell_admission(k: u64) {
-    match k {
-        0 => text(b"\n> admit_split 1: a split of shard 1 is admitted, with an empty cohort\n"),
-        1 => text(
-            b"\n> draw_cohort 1 --draws 0,0,0: S machines of the pool watch the shard (C1)\n",
-        ),
-        2 => text(
-            b"\n> schedule_splits --draws 3,2,1: no seat is ready, so no drain begins (C4)\n",
-        ),
-        3 => text(b"\n> mark_seat_ready 1 22: a seat of the left child is ready\n"),
-        4 => text(b"\n> mark_seat_ready 1 21: and one of the right child\n"),
-        _ => text(b"\n> mark_quiet 1 0: the shard is quiet\n"),
-    }
-}
-
-fn tell_cut(k: u64) {
-    match k {
-        6 => text(
-            b"\n> schedule_splits --draws 3,2,1: each child has its quorum of 3; a drain begins (C3, C5)\n",
-        ),
-        7 => text(
-            b"\n> schedule_splits --draws 3,2,1: the split gets its terminal and its halves (C6)\n",
-        ),
-        8 => text(b"\n> cut_splits: before the terminal nothing is cut (C7)\n"),
-        9 => text(b"\n> tick\n"),
-        _ => text(
-            b"\n> cut_splits: the shard is cut; members keep their stamps, the cohort is stamped now (C8)\n",
-        ),
-    }
-}
-
-fn tell_step(k: u64) {
-    if k < 6 {
-        return tell_admission(k);
-    }
-    tell_cut(k);
+fn tell_step(k: usize) {
+    text(b"\n");
+    say::row(
+        b"> admit_split 1: a split of shard 1 is admitted, with an empty cohort\n\
+          > draw_cohort 1 --draws 0,0,0: S machines of the pool watch the shard (C1)\n\
+          > schedule_splits --draws 3,2,1: no seat is ready, so no drain begins (C4)\n\
+          > mark_seat_ready 1 22: a seat of the left child is ready\n\
+          > mark_seat_ready 1 21: and one of the right child\n\
+          > mark_quiet 1 0: the shard is quiet\n\
+          > schedule_splits --draws 3,2,1: each child has its quorum of 3; a drain begins (C3, C5)\n\
+          > schedule_splits --draws 3,2,1: the split gets its terminal and its halves (C6)\n\
+          > cut_splits: before the terminal nothing is cut (C7)\n\
+          > tick\n\
+          > cut_splits: the shard is cut; members keep their stamps, the cohort is stamped now (C8)\n\
+          > the same steps with S = 5 and five members: children of 6 and 4 (C2)\n",
+        k,
+        &[],
+    );
 }
 
 fn take(k: u64, board: &mut [u64; WORDS]) {
     let before = *board;
     let mut results = [0u64; 2];
-    tell_step(k);
+    tell_step(k as usize);
     let answer = make(k, &[3, 2, 1], board, &mut results);
     trying::tell(answer, &results);
     diffs::tell(&before, board);
@@ -154,7 +137,7 @@ fn tell_five() {
     let mut board = [0u64; WORDS];
     load_five(&mut board);
     let before = board;
-    text(b"\n> the same steps with S = 5 and five members: children of 6 and 4 (C2)\n");
+    tell_step(11);
     make_each(&mut board);
     diffs::tell(&before, &board);
 }

@@ -3,17 +3,15 @@ use crate::args;
 use crate::facts;
 use crate::files;
 use crate::files::WORDS;
+use crate::lined;
+use crate::lined::begin;
+use crate::lined::put_place;
 use crate::lists;
-use crate::rows_of;
 use crate::say;
 use crate::say::WIDTH;
 use crate::say::end;
+use crate::say::lay;
 use crate::say::text;
-use crate::say::words;
-use crate::show;
-use crate::words::put_place;
-use board::layout::MOST_MACHINES;
-use board::machines;
 use differences::Difference;
 use sections::BOUNDARIES;
 use sections::COMMITTEES;
@@ -25,7 +23,6 @@ use sections::RIGHT;
 use sections::ROTATIONS;
 use sections::SEATS;
 use sections::SETTINGS;
-use templates::fill;
 use templates::number_at;
 
 // ---- the next difference of two tables
@@ -45,28 +42,20 @@ pub struct Apart {
     pub l: usize,
 }
 
+fn apart_at(how: u64, k: usize, l: usize) -> Apart {
+    Apart {
+        how: how,
+        k: k,
+        l: l,
+    }
+}
+
 fn told(d: Difference) -> Apart {
     match d {
-        Difference::Gone(k, l) => Apart {
-            how: GONE,
-            k: k,
-            l: l,
-        },
-        Difference::New(k, l) => Apart {
-            how: NEW,
-            k: k,
-            l: l,
-        },
-        Difference::Changed(k, l) => Apart {
-            how: CHANGED,
-            k: k,
-            l: l,
-        },
-        Difference::Same => Apart {
-            how: SAME,
-            k: 0,
-            l: 0,
-        },
+        Difference::Gone(k, l) => apart_at(GONE, k, l),
+        Difference::New(k, l) => apart_at(NEW, k, l),
+        Difference::Changed(k, l) => apart_at(CHANGED, k, l),
+        Difference::Same => apart_at(SAME, 0, 0),
     }
 }
 
@@ -76,107 +65,120 @@ fn next_in(which: u64, a: &[u64], b: &[u64], k: usize, l: usize) -> Apart {
     told(differences::next_difference(pairs, width, a, b, k, l))
 }
 
-// A table of each board, inside row i of one and row j of the other where it stands in a row.
-pub struct Rows {
-    pub which: u64,
-    pub i: usize,
-    pub j: usize,
-}
-
-fn next(t: Rows, a: &[u64; WORDS], b: &[u64; WORDS], k: usize, l: usize) -> Apart {
-    next_in(
-        t.which,
-        facts::table(a, t.which, t.i),
-        facts::table(b, t.which, t.j),
-        k,
-        l,
-    )
+// Where the walk goes on: past row k, unless it stands in the other board alone.
+fn past(k: usize, is_passed: bool) -> usize {
+    if is_passed {
+        return std::num::wrapping_add_usize(k, 1);
+    }
+    k
 }
 
 // ---- a row in one board
 
-fn put_machine(line: &mut [u8; WIDTH], at: usize, board: &[u64; WORDS], i: usize) -> usize {
-    if MOST_MACHINES <= i {
-        return at;
-    }
-    let m = machines::at(board, i);
-    put_place(line, at, m.place)
+fn put_text(line: &mut [u8; WIDTH], at: usize, k: usize, row: &[u64]) -> usize {
+    lay(
+        line,
+        at,
+        b"machine #: \ncommittee of shard #, members #\nboundary\nrotation\n -> \n",
+        k,
+        row,
+    )
 }
 
-fn put_name(line: &mut [u8; WIDTH], at: usize, board: &[u64; WORDS], i: usize) -> usize {
-    fill(line, at, b"machine #: ", facts::row(board, MACHINES, 0, i))
-}
-
-fn machine(name: &[u8], board: &[u64; WORDS], i: usize) {
+// What stands before it, and its name.
+fn head(before: usize, k: usize, row: &[u64]) {
     let mut line = [0u8; WIDTH];
-    let n = words(&mut line, 0, name);
-    let m = put_name(&mut line, n, board, i);
-    let e = put_machine(&mut line, m, board, i);
-    end(&line, e);
+    let a = begin(&mut line, before);
+    let b = put_text(&mut line, a, k, row);
+    end(&line, b);
 }
 
-fn committee(name: &[u8], board: &[u64; WORDS], j: usize) {
-    say::after(
-        name,
-        b"committee of shard #, members #",
-        facts::row(board, COMMITTEES, 0, j),
-    );
-    lists::list(facts::ids(board, MEMBERS, j));
+fn machine(before: usize, row: &[u64]) {
+    let mut line = [0u8; WIDTH];
+    let a = begin(&mut line, before);
+    let b = put_text(&mut line, a, 0, row);
+    let c = put_place(&mut line, b, row);
+    end(&line, c);
 }
 
-fn reshape(name: &[u8], board: &[u64; WORDS], i: usize) {
-    show::reshape_head(name, board, i);
-    show::reshape_state(b"      ", board, i);
-    rows_of::each(
-        rows_of::INSIDE_SEATS,
-        board,
-        i,
-        facts::count(board, SEATS, i),
-    );
+fn reshape(before: usize, board: &[u64; WORDS], i: usize) {
+    lined::reshape_head(before, board, i);
+    lined::reshape_state(lined::INSIDE, board, i);
+    lined::seats(board, i);
     lists::list_halves(board, i);
 }
 
-// A row after its name: was, is, new or gone.
-fn row(which: u64, name: &[u8], board: &[u64; WORDS], i: usize) {
-    if which == MACHINES {
-        return machine(name, board, i);
-    }
-    if which == COMMITTEES {
-        return committee(name, board, i);
-    }
+fn row(which: u64, before: usize, board: &[u64; WORDS], i: usize) {
     if which == RESHAPES {
-        return reshape(name, board, i);
+        return reshape(before, board, i);
     }
-    text(name);
+    let row = facts::row(board, which, 0, i);
+    if which == MACHINES {
+        return machine(before, row);
+    }
+    head(before, which as usize, row);
+    if which == COMMITTEES {
+        return lists::list(facts::ids(board, MEMBERS, i));
+    }
     if which == BOUNDARIES {
-        text(b"boundary\n");
-        return rows_of::boundary(board, i);
+        return lined::boundary(row);
     }
-    text(b"rotation\n");
-    rows_of::rotation(board, i);
+    lined::rotation(row);
 }
 
 // ---- a row in both
 
-fn place(name: &[u8], board: &[u64; WORDS], i: usize) {
+fn became(row: &[u64]) {
     let mut line = [0u8; WIDTH];
-    let n = words(&mut line, 0, name);
-    let e = put_machine(&mut line, n, board, i);
+    let a = begin(&mut line, lined::BECAME);
+    let b = put_place(&mut line, a, row);
+    end(&line, b);
+}
+
+// On one line where both places fit.
+fn changed_machine(was: &[u64], is: &[u64]) {
+    let mut line = [0u8; WIDTH];
+    let a = begin(&mut line, lined::INDENTED);
+    let b = put_text(&mut line, a, 0, was);
+    let c = put_place(&mut line, b, was);
+    if 48 < c {
+        end(&line, c);
+        return became(is);
+    }
+    let d = put_text(&mut line, c, 4, was);
+    let e = put_place(&mut line, d, is);
     end(&line, e);
 }
 
-fn changed_machine(a: &[u64; WORDS], i: usize, b: &[u64; WORDS], j: usize) {
-    let mut line = [0u8; WIDTH];
-    let n = words(&mut line, 0, b"  ");
-    let m = put_name(&mut line, n, a, i);
-    let o = put_machine(&mut line, m, a, i);
-    let at = words(&mut line, o, b" -> ");
-    if 52 < at {
-        end(&line, o);
-        return place(b"    -> ", b, j);
+fn seat_apart(d: Apart, was: &[u64], is: &[u64]) {
+    if d.how == GONE {
+        return lined::seat(lined::GONE_INSIDE, was);
     }
-    let e = put_machine(&mut line, at, b, j);
-    end(&line, e);
+    if d.how == NEW {
+        return lined::seat(lined::NEW_INSIDE, is);
+    }
+    lined::seat(lined::WAS_INSIDE, was);
+    lined::seat(lined::IS_INSIDE, is);
+}
+
+// More than two tables have rows.
+const MOST_TURNS: u64 = 1024;
+
+fn walk_seats(a: &[u64], b: &[u64]) {
+    let w = sections::row_width(SEATS);
+    let mut k: usize = 0;
+    let mut l: usize = 0;
+    let mut left = MOST_TURNS;
+    while 0 < left {
+        let d = next_in(SEATS, a, b, k, l);
+        if d.how == SAME {
+            return;
+        }
+        seat_apart(d, sections::row(a, w, d.k), sections::row(b, w, d.l));
+        k = past(d.k, d.how != NEW);
+        l = past(d.l, d.how != GONE);
+        left -= 1;
+    }
 }
 
 fn same_ids(which: u64, a: &[u64; WORDS], i: usize, b: &[u64; WORDS], j: usize) -> bool {
@@ -184,10 +186,10 @@ fn same_ids(which: u64, a: &[u64; WORDS], i: usize, b: &[u64; WORDS], j: usize) 
 }
 
 fn changed_reshape(a: &[u64; WORDS], i: usize, b: &[u64; WORDS], j: usize) {
-    show::reshape_head(b"  ", b, j);
-    show::reshape_state(b"    was ", a, i);
-    show::reshape_state(b"    is  ", b, j);
-    walk_seats(a, i, b, j);
+    lined::reshape_head(lined::INDENTED, b, j);
+    lined::reshape_state(lined::WAS_INSIDE, a, i);
+    lined::reshape_state(lined::IS_INSIDE, b, j);
+    walk_seats(facts::table(a, SEATS, i), facts::table(b, SEATS, j));
     if same_ids(LEFT, a, i, b, j) & same_ids(RIGHT, a, i, b, j) {
         return;
     }
@@ -196,82 +198,44 @@ fn changed_reshape(a: &[u64; WORDS], i: usize, b: &[u64; WORDS], j: usize) {
 
 fn changed(which: u64, a: &[u64; WORDS], i: usize, b: &[u64; WORDS], j: usize) {
     if which == MACHINES {
-        return changed_machine(a, i, b, j);
+        return changed_machine(facts::row(a, MACHINES, 0, i), facts::row(b, MACHINES, 0, j));
     }
     if which == RESHAPES {
         return changed_reshape(a, i, b, j);
     }
-    row(which, b"  was: ", a, i);
-    row(which, b"  is:  ", b, j);
-}
-
-// ---- the walks
-
-fn past(k: usize, is_passed: bool) -> usize {
-    if is_passed {
-        return std::num::wrapping_add_usize(k, 1);
-    }
-    k
-}
-
-fn seat_apart(d: Apart, a: &[u64; WORDS], i: usize, b: &[u64; WORDS], j: usize) {
-    if d.how == GONE {
-        return rows_of::seat(b"    gone", a, i, d.k);
-    }
-    if d.how == NEW {
-        return rows_of::seat(b"    new ", b, j, d.l);
-    }
-    rows_of::seat(b"    was ", a, i, d.k);
-    rows_of::seat(b"    is  ", b, j, d.l);
-}
-
-// More than two tables have rows.
-const MOST_TURNS: u64 = 1024;
-
-// The seats of reshape i of one board and j of the other.
-fn walk_seats(a: &[u64; WORDS], i: usize, b: &[u64; WORDS], j: usize) {
-    let t = Rows {
-        which: SEATS,
-        i: i,
-        j: j,
-    };
-    let mut k: usize = 0;
-    let mut l: usize = 0;
-    let mut left = MOST_TURNS;
-    while 0 < left {
-        let d = next(t, a, b, k, l);
-        if d.how == SAME {
-            return;
-        }
-        seat_apart(d, a, i, b, j);
-        k = past(d.k, d.how != NEW);
-        l = past(d.l, d.how != GONE);
-        left -= 1;
-    }
+    row(which, lined::WAS, a, i);
+    row(which, lined::IS, b, j);
 }
 
 fn row_apart(which: u64, d: Apart, a: &[u64; WORDS], b: &[u64; WORDS]) {
     if d.how == GONE {
-        return row(which, b"  gone: ", a, d.k);
+        return row(which, lined::GONE, a, d.k);
     }
     if d.how == NEW {
-        return row(which, b"  new: ", b, d.l);
+        return row(which, lined::NEW, b, d.l);
     }
     changed(which, a, d.k, b, d.l);
 }
 
+// ---- the whole
+
+fn next(which: u64, a: &[u64; WORDS], b: &[u64; WORDS], k: usize, l: usize) -> Apart {
+    next_in(
+        which,
+        facts::table(a, which, 0),
+        facts::table(b, which, 0),
+        k,
+        l,
+    )
+}
+
 // The differences of a table: whether there is one.
 fn walk(which: u64, a: &[u64; WORDS], b: &[u64; WORDS]) -> bool {
-    let t = Rows {
-        which: which,
-        i: 0,
-        j: 0,
-    };
     let mut k: usize = 0;
     let mut l: usize = 0;
     let mut left = MOST_TURNS;
     while 0 < left {
-        let d = next(t, a, b, k, l);
+        let d = next(which, a, b, k, l);
         if d.how == SAME {
             return left < MOST_TURNS;
         }
@@ -283,30 +247,32 @@ fn walk(which: u64, a: &[u64; WORDS], b: &[u64; WORDS]) -> bool {
     true
 }
 
-fn changed_setting(k: usize, was: u64, is: u64) {
-    match k {
-        1 => say::row(b"  epoch # -> #", &[was, is]),
-        2 => say::row(b"  shard size # -> #", &[was, is]),
-        3 => say::row(b"  drain length # -> #", &[was, is]),
-        4 => say::row(b"  ready wait # -> #", &[was, is]),
-        5 => say::row(b"  shuffle interval # -> #", &[was, is]),
-        _ => say::row(b"  most rotations in flight # -> #", &[was, is]),
+fn tell_setting(k: usize, was: u64, is: u64) {
+    say::row(
+        b"\n  epoch # -> #\n  shard size # -> #\n  drain length # -> #\n  ready wait # -> #\n  shuffle interval # -> #\n  most rotations in flight # -> #\n",
+        k,
+        &[was, is],
+    );
+}
+
+fn setting(k: usize, a: &[u64], b: &[u64]) -> u64 {
+    let was = number_at(a, k);
+    let is = number_at(b, k);
+    if was == is {
+        return 0;
     }
+    tell_setting(k, was, is);
+    1
 }
 
 fn walk_settings(a: &[u64], b: &[u64]) -> bool {
-    let mut is_one = false;
+    let mut n: u64 = 0;
     let mut k: usize = 1;
     while k < 7 {
-        let was = number_at(a, k);
-        let is = number_at(b, k);
-        if was != is {
-            changed_setting(k, was, is);
-            is_one = true;
-        }
+        n = std::num::wrapping_add_u64(n, setting(k, a, b));
         k += 1;
     }
-    is_one
+    0 < n
 }
 
 pub(crate) fn tell(a: &[u64; WORDS], b: &[u64; WORDS]) {

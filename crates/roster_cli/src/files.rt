@@ -11,9 +11,9 @@ pub(crate) fn open(path: &[u8]) -> i32 {
     let fd = os::open_read(path);
     if fd < 0 {
         if os::errno() == libc::ENOENT {
-            say::mistake(b"there is no such file: ", path);
+            say::mistake(say::NO_SUCH_FILE, path);
         } else {
-            say::mistake(b"this file cannot be read: ", path);
+            say::mistake(say::NOT_READ, path);
         }
     }
     fd
@@ -22,17 +22,9 @@ pub(crate) fn open(path: &[u8]) -> i32 {
 // Which word of the file is not a snapshot's.
 fn tell_stop(path: &[u8], bytes: &[u8]) {
     if MOST_BYTES < bytes.len() {
-        say::mistake(
-            b"longer than any snapshot, which has at most 46816 bytes: ",
-            path,
-        );
-        return;
+        return say::mistake(say::TOO_LONG, path);
     }
-    say::mistake_row(
-        b"not a snapshot of a well-formed board; reading stopped at word #: ",
-        stops::stopped_at(bytes) as u64,
-        path,
-    );
+    say::mistake_at(say::NO_SNAPSHOT, stops::stopped_at(bytes) as u64, path);
 }
 
 fn read_path(path: &[u8], board: &mut [u64; WORDS]) -> bool {
@@ -53,7 +45,7 @@ fn read_path(path: &[u8], board: &mut [u64; WORDS]) -> bool {
 // The board in the file that the word at i names; a mistake is told.
 pub(crate) fn read_board(i: usize, board: &mut [u64; WORDS]) -> bool {
     if args::is_missing(i) {
-        say::mistake(b"a snapshot's file is missing (./roster help)", b"");
+        say::mistake_alone(say::FILE_MISSING);
         return false;
     }
     let mut path = io::buffer();
@@ -64,7 +56,7 @@ pub(crate) fn read_board(i: usize, board: &mut [u64; WORDS]) -> bool {
 fn put_all(path: &[u8], bytes: &[u8]) -> bool {
     let fd = os::create(path);
     if fd < 0 {
-        say::mistake(b"this file cannot be made, or is there already: ", path);
+        say::mistake(say::NOT_MADE, path);
         return false;
     }
     let is_written = io::write_all(fd, bytes);
@@ -74,7 +66,7 @@ fn put_all(path: &[u8], bytes: &[u8]) -> bool {
         return true;
     }
     os::unlink(path);
-    say::mistake(b"the snapshot could not be written to ", path);
+    say::mistake(say::NOT_WRITTEN, path);
     false
 }
 
@@ -85,7 +77,7 @@ fn put_at(path: &[u8], new: &[u8], bytes: &[u8]) -> bool {
     }
     if os::rename(new, path) != 0 {
         os::unlink(new);
-        say::mistake(b"the snapshot could not be put at ", path);
+        say::mistake(say::NOT_PUT, path);
         return false;
     }
     true

@@ -1,8 +1,8 @@
 // What the command can do.
-use crate::say::text;
+use crate::say::all;
 
 fn tell_commands() {
-    text(
+    all(
         b"./roster                      the demo\n\
           ./roster demo                 a built-in board, from a split's admission to its cut\n\
           ./roster show FILE            the roster of a snapshot, as people read it\n\
@@ -11,14 +11,17 @@ fn tell_commands() {
           ./roster step FILE NAME ARGS [--draws FILE or numbers] [--out FILE]\n\
           \x20                             a step on a snapshot: its answer, and what changed; the new\n\
           \x20                             snapshot is written only with --out\n\
-          ./roster help                 this\n",
+          ./roster help                 this\n\
+          \n\
+          The steps of `./roster step FILE NAME`, with the numbers and draws that each takes:\n",
+        0,
+        11,
     );
 }
 
 fn tell_steps() {
-    text(
-        b"\nThe steps of `./roster step FILE NAME`, with the numbers and draws that each takes:\n\
-          \x20 tick                              the epoch plus one\n\
+    all(
+        b"  tick                              the epoch plus one\n\
           \x20 time_out                          waiting machines at their deadline become ready\n\
           \x20 admit_split TARGET                a split is admitted\n\
           \x20 draw_cohort TARGET --draws ..     its cohort is drawn from the pool\n\
@@ -32,16 +35,17 @@ fn tell_steps() {
           \x20 cut_merges                        merges at their terminal are cut\n\
           \x20 leave MACHINE --draws ..          a machine falls short of stake\n\
           \x20 rotate SHARD MACHINE --draws ..   a rotation opens against a machine\n\
-          \x20 resolve                           rotations with a ready entrant close\n",
+          \x20 resolve                           rotations with a ready entrant close\n\
+          \n\
+          Draws are numbers with blanks, commas or line ends between them; a word that begins with no\n\
+          digit is the name of a file of them. A line that begins with 'mistake: ' says what was wrong;\n\
+          nothing is written then, and the command's status is 2.\n",
+        0,
+        19,
     );
 }
 
 pub(crate) fn tell() {
     tell_commands();
     tell_steps();
-    text(
-        b"\nDraws are numbers with blanks, commas or line ends between them; a word that begins with no\n\
-          digit is the name of a file of them. A line that begins with 'mistake: ' says what was wrong;\n\
-          nothing is written then, and the command's status is 2.\n",
-    );
 }

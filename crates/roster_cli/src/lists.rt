@@ -21,18 +21,27 @@ pub const SHORT: u64 = 3;
 
 pub const OTHER: u64 = 4;
 
-// An id on the line, or on a new one where the line is full.
-fn put_id(line: &mut [u8; WIDTH], at: usize, id: u64) -> usize {
-    if 78 < at {
-        end(line, at);
-        return fill(line, 0, b"      ##", &[id]);
-    }
+fn add_id(line: &mut [u8; WIDTH], at: usize, id: u64) -> usize {
     fill(line, at, b"  ##", &[id])
 }
 
+// An id on the line, or on a new one where the line is full.
+fn put_id(line: &mut [u8; WIDTH], at: usize, id: u64) -> usize {
+    if at < 79 {
+        return add_id(line, at, id);
+    }
+    end(line, at);
+    add_id(line, 4, id)
+}
+
+// A line that starts with blanks.
+fn started() -> [u8; WIDTH] {
+    [b' '; WIDTH]
+}
+
 pub(crate) fn list(ids: &[u64]) {
-    let mut line = [0u8; WIDTH];
-    let mut at = say::words(&mut line, 0, b"    ");
+    let mut line = started();
+    let mut at: usize = 4;
     let mut i: usize = 0;
     while i < ids.len() {
         at = put_id(&mut line, at, ids[i]);
@@ -67,8 +76,8 @@ fn put_machine(line: &mut [u8; WIDTH], at: usize, kind: u64, row: &[u64]) -> usi
 
 fn list_ids(kind: u64, board: &[u64; WORDS]) {
     let n = facts::count(board, MACHINES, 0);
-    let mut line = [0u8; WIDTH];
-    let mut at = say::words(&mut line, 0, b"    ");
+    let mut line = started();
+    let mut at: usize = 4;
     let mut i: usize = 0;
     while i < n {
         at = put_machine(&mut line, at, kind, facts::row(board, MACHINES, 0, i));
@@ -81,13 +90,12 @@ fn machine(kind: u64, row: &[u64]) {
     if number_at(row, 1) != kind {
         return;
     }
-    if kind == WATCHING {
-        return say::row(
-            b"  ####################~  watches shard #####~  stamp ##########",
-            row,
-        );
-    }
-    say::row(b"  ####################~  mark ###", row);
+    say::row(
+        b"  ####################~  watches shard #####~  stamp ##########\n\
+          \x20 ####################~  mark ###\n",
+        (kind / 4) as usize,
+        row,
+    );
 }
 
 fn list_rows(kind: u64, board: &[u64; WORDS]) {
@@ -99,13 +107,8 @@ fn list_rows(kind: u64, board: &[u64; WORDS]) {
     }
 }
 
-// Those of a kind, after their number: ids alone, or a line for each with what it watches or its mark.
-pub(crate) fn kind(template: &[u8], kind: u64, board: &[u64; WORDS]) {
-    let n = count_of(board, kind);
-    say::row(template, &[n]);
-    if n == 0 {
-        return;
-    }
+// Those of a kind: ids alone, or a line for each with what it watches or its mark.
+pub(crate) fn kind(kind: u64, board: &[u64; WORDS]) {
     if (kind == WATCHING) | (kind == OTHER) {
         return list_rows(kind, board);
     }

@@ -7,34 +7,40 @@ mod diffs;
 mod facts;
 mod files;
 mod help;
+mod lined;
 mod lists;
-mod rows_of;
 mod say;
 mod show;
 mod trying;
-mod words;
+
+const COMMANDS: usize = 8;
+
+fn command() -> usize {
+    args::which(
+        b"demo\nshow\ncheck\nstep\ndiff\nhelp\n--help\n-h",
+        COMMANDS,
+        1,
+    )
+}
+
+fn tell_demo() {
+    if args::too_many(2) {
+        return;
+    }
+    demo::tell();
+}
 
 fn main() {
-    if (os::arg_count() < 2) | args::is(1, b"demo") {
-        if args::too_many(2) {
-            return;
-        }
+    if os::arg_count() < 2 {
         return demo::tell();
     }
-    if args::is(1, b"show") {
-        return show::run();
+    match command() {
+        0 => tell_demo(),
+        1 => show::run(),
+        2 => checks::run(),
+        3 => trying::run(),
+        4 => diffs::run(),
+        5 | 6 | 7 => help::tell(),
+        _ => args::mistake(1, say::NO_SUCH_COMMAND),
     }
-    if args::is(1, b"check") {
-        return checks::run();
-    }
-    if args::is(1, b"step") {
-        return trying::run();
-    }
-    if args::is(1, b"diff") {
-        return diffs::run();
-    }
-    if args::is(1, b"help") | args::is(1, b"--help") | args::is(1, b"-h") {
-        return help::tell();
-    }
-    args::mistake(1, b"there is no such command (./roster help lists them): ");
 }

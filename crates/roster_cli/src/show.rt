@@ -3,40 +3,52 @@ use crate::args;
 use crate::facts;
 use crate::files;
 use crate::files::WORDS;
+use crate::lined;
 use crate::lists;
 use crate::lists::OTHER;
 use crate::lists::POOLED;
 use crate::lists::SEATED;
 use crate::lists::SHORT;
 use crate::lists::WATCHING;
-use crate::rows_of;
 use crate::say;
-use crate::say::WIDTH;
-use crate::say::end;
 use crate::say::text;
-use crate::say::words;
+use sections::BOUNDARIES;
 use sections::COMMITTEES;
 use sections::MACHINES;
+use sections::MEMBERS;
 use sections::RESHAPES;
+use sections::ROTATIONS;
 use sections::SEATS;
 use sections::SETTINGS;
 use templates::number_at;
 
-fn settings(board: &[u64; WORDS]) {
-    let s = facts::table(board, SETTINGS, 0);
+// ---- the settings, and counts
+
+fn tell_counts(k: usize, numbers: &[u64]) {
     say::row(
-        b"epoch #; shard size #, quorum #",
-        &[number_at(s, 1), number_at(s, 2), facts::quorum(board)],
-    );
-    say::row(
-        b"~~~drain length #; ready wait #; shuffle interval #; most rotations in flight #",
-        s,
+        b"epoch #; shard size #, quorum #\n\
+          ~~~drain length #; ready wait #; shuffle interval #; most rotations in flight #\n\
+          machines: #: seated #, watching #, pooled #, short of stake #, other #\n\
+          shard #: members #, seated #, ready #\n\
+          \x20 child #: seats #, ready #: they reach the quorum of #\n\
+          \x20 child #: seats #, ready #; for the quorum it waits for ready members in its half: #~ of #\n\
+          \x20 keepers #, ready #: they reach the quorum of #\n\
+          \x20 keepers #, ready #; for the quorum it waits for ready keepers: ~#\n",
+        k,
+        numbers,
     );
 }
 
+fn settings(board: &[u64; WORDS]) {
+    let s = facts::table(board, SETTINGS, 0);
+    tell_counts(0, &[number_at(s, 1), number_at(s, 2), facts::quorum(board)]);
+    tell_counts(1, s);
+}
+
 fn totals(board: &[u64; WORDS]) {
-    say::row(
-        b"\nmachines: #: seated #, watching #, pooled #, short of stake #, other #",
+    text(b"\n");
+    tell_counts(
+        2,
         &[
             facts::count(board, MACHINES, 0) as u64,
             lists::count_of(board, SEATED),
@@ -48,46 +60,50 @@ fn totals(board: &[u64; WORDS]) {
     );
 }
 
-// One committee, with its members.
+// ---- committees
+
+fn members(board: &[u64; WORDS], shard: u64, ids: &[u64]) {
+    let mut k: usize = 0;
+    while k < ids.len() {
+        lined::member(board, shard, ids[k]);
+        k += 1;
+    }
+}
+
 fn committee(board: &[u64; WORDS], j: usize) {
     let row = facts::row(board, COMMITTEES, 0, j);
     let shard = number_at(row, 0);
-    let n = number_at(row, 1);
-    say::row(
-        b"\nshard #: members #, seated #, ready #",
+    text(b"\n");
+    tell_counts(
+        3,
         &[
             shard,
-            n,
+            number_at(row, 1),
             facts::seated(board, shard),
             facts::ready(board, shard),
         ],
     );
-    rows_of::each(rows_of::INSIDE_MEMBERS, board, j, n as usize);
+    members(board, shard, facts::ids(board, MEMBERS, j));
 }
 
 // ---- what a reshape that is not scheduled waits for
 
-fn tell_child(child: u64, seats: u64, ready: u64, quorum: u64, half: u64) {
+fn lacking(quorum: u64, ready: u64) -> u64 {
     if quorum <= ready {
-        return say::row(
-            b"  child #: seats #, ready #: they reach the quorum of #",
-            &[child, seats, ready, quorum],
-        );
+        return 0;
     }
-    say::row(
-        b"  child #: seats #, ready #; for the quorum it waits for ready members in its half: # of #",
-        &[child, seats, ready, quorum - ready, half],
-    );
+    quorum - ready
 }
 
 fn child(board: &[u64; WORDS], i: usize, child: u64, half: u64) {
-    tell_child(
-        child,
-        facts::seats(board, i, child),
-        facts::ready_seats(board, i, child),
-        facts::quorum(board),
-        half,
-    );
+    let seats = facts::seats(board, i, child);
+    let ready = facts::ready_seats(board, i, child);
+    let quorum = facts::quorum(board);
+    let lacks = lacking(quorum, ready);
+    if lacks == 0 {
+        return tell_counts(4, &[child, seats, ready, quorum]);
+    }
+    tell_counts(5, &[child, seats, ready, lacks, quorum, half]);
 }
 
 // A left half has n/2 rounded up.
@@ -100,19 +116,15 @@ fn children(board: &[u64; WORDS], i: usize, target: u64) {
     child(board, i, 2 * target + 1, n / 2);
 }
 
-fn keepers(board: &[u64; WORDS], i: usize, quorum: u64) {
-    let ready = facts::ready_keepers(board, i);
+fn keepers(board: &[u64; WORDS], i: usize) {
     let n = facts::count(board, SEATS, i) as u64;
-    if quorum <= ready {
-        return say::row(
-            b"  keepers #, ready #: they reach the quorum of #",
-            &[n, ready, quorum],
-        );
+    let ready = facts::ready_keepers(board, i);
+    let quorum = facts::quorum(board);
+    let lacks = lacking(quorum, ready);
+    if lacks == 0 {
+        return tell_counts(6, &[n, ready, quorum]);
     }
-    say::row(
-        b"  keepers #, ready #; for the quorum it waits for ready keepers: #",
-        &[n, ready, quorum - ready],
-    );
+    tell_counts(7, &[n, ready, quorum, lacks]);
 }
 
 fn gate(board: &[u64; WORDS], i: usize) {
@@ -123,91 +135,79 @@ fn gate(board: &[u64; WORDS], i: usize) {
     }
     let is_merge = number_at(row, 1) == 1;
     if is_merge {
-        return keepers(board, i, facts::quorum(board));
+        return keepers(board, i);
     }
     children(board, i, number_at(row, 0));
-}
-
-pub(crate) fn reshape_head(before: &[u8], board: &[u64; WORDS], i: usize) {
-    let row = facts::row(board, RESHAPES, 0, i);
-    if number_at(row, 1) == 1 {
-        return say::after(before, b"merge to shard #~, admitted at #", row);
-    }
-    say::after(before, b"split of shard #~, admitted at #", row);
-}
-
-pub(crate) fn reshape_state(before: &[u8], board: &[u64; WORDS], i: usize) {
-    let mut line = [0u8; WIDTH];
-    let a = words(&mut line, 0, before);
-    let b = rows_of::put_reshape_state(&mut line, a, board, i);
-    end(&line, b);
 }
 
 // One reshape: what it is, what it waits for, its seats and its halves.
 fn reshape(board: &[u64; WORDS], i: usize) {
     text(b"\n");
-    reshape_head(b"", board, i);
-    reshape_state(b"  ", board, i);
+    lined::reshape_head(lined::NOTHING, board, i);
+    lined::reshape_state(lined::INDENTED, board, i);
     gate(board, i);
-    rows_of::each(
-        rows_of::INSIDE_SEATS,
-        board,
-        i,
-        facts::count(board, SEATS, i),
-    );
+    lined::seats(board, i);
     lists::list_halves(board, i);
 }
 
 // ---- the whole
 
+fn one(which: u64, board: &[u64; WORDS], i: usize) {
+    match which {
+        1 => committee(board, i),
+        2 => lined::boundary(facts::row(board, BOUNDARIES, 0, i)),
+        3 => lined::rotation(facts::row(board, ROTATIONS, 0, i)),
+        _ => reshape(board, i),
+    }
+}
+
 fn each(which: u64, board: &[u64; WORDS]) {
     let n = facts::count(board, which, 0);
     let mut i: usize = 0;
     while i < n {
-        if which == COMMITTEES {
-            committee(board, i);
-        } else {
-            reshape(board, i);
-        }
+        one(which, board, i);
         i += 1;
     }
 }
 
-fn rows(template: &[u8], kind: u64, which: u64, board: &[u64; WORDS]) {
-    let n = facts::count(board, which, 0);
-    say::row(template, &[n as u64]);
-    rows_of::each(kind, board, 0, n);
+fn heading(k: usize, n: u64) {
+    say::row(
+        b"pool: #\n\nwatching: #\nshort of stake: #\nother: #\nboundaries: #\nrotations: #\nreshapes: #\n",
+        k,
+        &[n],
+    );
+}
+
+// A place is its own heading's number.
+fn of_kind(kind: u64, board: &[u64; WORDS]) {
+    let n = lists::count_of(board, kind);
+    heading(kind as usize, n);
+    if 0 < n {
+        lists::kind(kind, board);
+    }
 }
 
 fn places(board: &[u64; WORDS]) {
     totals(board);
-    lists::kind(b"pool: #", POOLED, board);
-    lists::kind(b"watching: #", WATCHING, board);
-    lists::kind(b"short of stake: #", SHORT, board);
-    lists::kind(b"other: #", OTHER, board);
+    of_kind(POOLED, board);
+    of_kind(WATCHING, board);
+    of_kind(SHORT, board);
+    of_kind(OTHER, board);
 }
 
-fn tables(board: &[u64; WORDS]) {
-    rows(
-        b"rotations: #",
-        rows_of::ROTATIONS,
-        sections::ROTATIONS,
-        board,
-    );
-    rows(
-        b"boundaries: #",
-        rows_of::BOUNDARIES,
-        sections::BOUNDARIES,
-        board,
-    );
-    rows(b"reshapes: #", rows_of::NOTHING_MORE, RESHAPES, board);
+fn head(k: usize, which: u64, board: &[u64; WORDS]) {
+    heading(k, facts::count(board, which, 0) as u64);
 }
 
 pub(crate) fn tell(board: &[u64; WORDS]) {
     settings(board);
     each(COMMITTEES, board);
     places(board);
-    tables(board);
+    head(6, ROTATIONS, board);
+    each(ROTATIONS, board);
+    head(5, BOUNDARIES, board);
+    each(BOUNDARIES, board);
+    head(7, RESHAPES, board);
     each(RESHAPES, board);
 }
 

@@ -6,9 +6,9 @@ use crate::files;
 use crate::files::WORDS;
 use crate::say;
 use crate::say::WIDTH;
-use crate::say::put;
+use crate::say::end;
+use crate::say::lay;
 use crate::say::text;
-use crate::words;
 use numerals::Numeral;
 use numerals::Parsed;
 ghost use Rattle.io.specs.Counts.{Counts};
@@ -69,11 +69,11 @@ fn counted(read: Parsed, n: usize, word: &[u8]) -> usize {
     match read {
         Parsed::Read(more) => std::num::wrapping_add_usize(n, more),
         Parsed::Stopped(_) => {
-            say::mistake(b"these draws have a word that is no number: ", word);
+            say::mistake(say::DRAWS_NO_NUMBER, word);
             NOT_TAKEN
         }
         Parsed::TooMany => {
-            say::mistake(b"more than 4096 draws: ", word);
+            say::mistake(say::TOO_MANY_DRAWS, word);
             NOT_TAKEN
         }
     }
@@ -88,7 +88,7 @@ fn add_file(path: &[u8], draws: &mut [u64; MOST_DRAWS], n: usize) -> usize {
     let k = io::read_full(fd, &mut room);
     libc::close(fd);
     if k == 65536 {
-        say::mistake(b"a file of draws has fewer than 65536 bytes: ", path);
+        say::mistake(say::LONG_DRAWS, path);
         return NOT_TAKEN;
     }
     let read = numbers_after(&room[..k], draws, n);
@@ -117,14 +117,13 @@ fn add_draws(i: usize, draws: &mut [u64; MOST_DRAWS], n: usize) -> usize {
     add_written(&room[..k], draws, n)
 }
 
+// The number of its option: 0 where the word at i names none.
 fn option_at(i: usize) -> u64 {
-    if args::is(i, b"--draws") {
-        return DRAWS;
+    match args::which(b"--draws\n--out", 2, i) {
+        0 => DRAWS,
+        1 => OUT,
+        _ => NOTHING,
     }
-    if args::is(i, b"--out") {
-        return OUT;
-    }
-    NOTHING
 }
 
 // With the word at i, which is no option's name.
@@ -136,7 +135,7 @@ fn with_word(o: Options, i: usize, draws: &mut [u64; MOST_DRAWS]) -> Options {
     if o.of == OUT {
         return with_options(true, o.draws, i, NOTHING);
     }
-    args::mistake(i, b"one argument too many: ");
+    args::mistake(i, say::ONE_TOO_MANY);
     with_options(false, 0, 0, NOTHING)
 }
 
@@ -161,7 +160,7 @@ fn taken(from: usize, draws: &mut [u64; MOST_DRAWS]) -> Options {
         i += 1;
     }
     if o.of == OUT {
-        say::mistake(b"a file's name is missing after --out", b"");
+        say::mistake_alone(say::OUT_MISSING);
         return with_options(false, 0, 0, NOTHING);
     }
     o
@@ -173,26 +172,53 @@ fn number(i: usize, wanted: bool) -> Numeral {
         return Numeral::Number(0);
     }
     if args::is_missing(i) {
-        args::mistake(
-            3,
-            b"a number is missing (./roster help says what a step takes): ",
-        );
+        args::mistake(3, say::NUMBER_MISSING);
         return Numeral::NotANumber;
     }
     args::number(i)
 }
 
-fn tell_answer(answer: u64) {
-    let mut line = [0u8; WIDTH];
-    let a = put(&mut line, 0, b"answer ", answer);
-    let b = say::words(&mut line, a, b": ");
-    let c = words::put_answer(&mut line, b, answer);
-    say::end(&line, c);
+fn put_answer(line: &mut [u8; WIDTH], at: usize, answer: usize) -> usize {
+    lay(
+        line,
+        at,
+        b"done\n\
+          the board is not well-formed\n\
+          tick at the last epoch\n\
+          shard 0 or over 65535, a reshape's target over 32767, or a side over 1\n\
+          the machine has no record\n\
+          a boundary is missing\n\
+          no such reshape, seat or side, no split to lapse, or a cohort's need is unmet\n\
+          another reshape names a shard of the family, or its committees do not fit\n\
+          the victim is not seated there, or is already in a rotation there\n\
+          the next needed draw is missing\n\
+          the next draw is larger than allowed\n\
+          a limit would be passed, or an id would stand twice in a committee\n\
+          a cohort is drawn from fewer than S pooled\n\
+          the snapshot is not a well-formed board's\n",
+        answer,
+        &[],
+    )
+}
+
+fn put_results(line: &mut [u8; WIDTH], k: usize, numbers: &[u64]) -> usize {
+    lay(
+        line,
+        0,
+        b"answer #: \nhandled #, draws used #\n",
+        k,
+        numbers,
+    )
 }
 
 pub(crate) fn tell(answer: u64, results: &[u64; 2]) {
-    tell_answer(answer);
-    say::row(b"handled #, draws used #", results);
+    let mut line = [0u8; WIDTH];
+    let a = put_results(&mut line, 0, &[answer]);
+    let b = put_answer(&mut line, a, answer as usize);
+    end(&line, b);
+    let mut counts = [0u8; WIDTH];
+    let c = put_results(&mut counts, 1, results);
+    end(&counts, c);
 }
 
 // Written where the step is done, and where a step over several shards was refused at one: those before it stand.
@@ -225,7 +251,7 @@ pub struct Asked {
 fn make(asked: Asked, name: &[u8], draws: &[u64], board: &mut [u64; WORDS]) {
     let n = draws_within(asked.draws, draws);
     if (0 < n) & !calls::takes_draws(asked.step) {
-        say::mistake(b"this step takes no draws: ", name);
+        say::mistake(say::NO_DRAWS_TAKEN, name);
         return;
     }
     let before = *board;
@@ -277,17 +303,14 @@ pub(crate) fn run() {
         return;
     }
     if args::is_missing(3) {
-        say::mistake(b"a step's name is missing (./roster help lists them)", b"");
+        say::mistake_alone(say::STEP_MISSING);
         return;
     }
     let mut name = io::buffer();
     let n = os::arg(3, &mut name);
     let step = calls::step_named(&name[..n]);
     if step == 0 {
-        say::mistake(
-            b"there is no such step (./roster help lists them): ",
-            &name[..n],
-        );
+        say::mistake(say::NO_SUCH_STEP, &name[..n]);
         return;
     }
     take(step, &name[..n], &mut board);

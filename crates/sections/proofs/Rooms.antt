@@ -1,12 +1,16 @@
 -- Rows and ids that lie within a table's room, and those that do not.
 use Prim.Native.Nat.{ℕ, suc, _+_, _*_, _-_, _/_, _≤_, _<_}
 use mathlib.Core.Path.{_≡_, refl}
+use mathlib.Core.Bool.{Bool, true, false}
 use mathlib.Core.List.{List, []}
 use native.Mathlib.Omega.{arith}
+use native.Mathlib.Numerals.{add-one}
 use native.Mathlib.Nat.{suc-mul, le-div-iff-mul-le, div-lt-iff-lt-mul}
 use borrow.Author.Tests.{le-leb, lt-leb, lt-ltb, le-ltb}
+use lib.Dec.{eqb}
 use lib.ListN.{length, take, drop, getD}
-use Rattle.sections.specs.Tables.{rowIn, idsIn}
+use Rattle.rules.specs.Lists.{bitOf}
+use Rattle.sections.specs.Tables.{rowIn, idsIn, countIn}
 
 module _ (w i : ℕ) (t : List ℕ) (z : 0 < w) (l : 0 < length t) where
   pub row-within : i < (length t - 1) / w → 1 + i * w + w ≤ length t
@@ -35,3 +39,17 @@ ids-there t h = rw (lt-ltb (getD t 0 0) (length t) h)
 pub ids-past : (t : List ℕ) → length t ≤ getD t 0 0 → idsIn t ≡ []
 unfolding idsIn
 ids-past t h = rw (le-ltb (getD t 0 0) (length t) h)
+
+-- ---- rows counted one by one
+
+bit-most : (c : Bool) → bitOf c ≤ 1
+bit-most true = omega arith
+bit-most false = omega arith
+
+module _ (w k x : ℕ) (t row : List ℕ) (n i v b : ℕ) (r : row ≡ rowIn w i t) (e : v ≡ getD row k 0) (f : b ≡ bitOf (eqb v x)) where
+  pub bit-small : b ≤ 1
+  bit-small = omega (arith, f, bit-most (eqb v x))
+
+  pub counted : n ≡ countIn w k x t i → n + b ≡ countIn w k x t (i + 1)
+  unfolding countIn
+  counted p = rw (add-one i, ← p, ← r, ← e, ← f)

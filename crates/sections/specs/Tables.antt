@@ -4,6 +4,7 @@ use mathlib.Core.Bool.{cond}
 use mathlib.Core.List.{List, [], _∷_}
 use lib.Dec.{eqb, ltb, leb}
 use lib.ListN.{length, take, drop, getD}
+use Rattle.rules.specs.Lists.{bitOf}
 use Rattle.rules.specs.Board.{mostCommittees, mostMembers, mostReshapes, mostSeats, mostHalf}
 use Rattle.board.specs.Layout.{machineWidth, committeeWidth, boundaryWidth, rotationWidth, reshapeWidth, seatWidth, membersAt, seatsAt, leftAt, rightAt, machinesAt, committeesAt, boundsAt, rotationsAt, reshapesAt, boardSize}
 use Rattle.sections.specs.declared.Span.{Span}
@@ -52,4 +53,4 @@ idsIn t = cond (ltb (getD t 0 0) (length t)) (take (getD t 0 0) (drop 1 t)) []
 -- of the first n rows, how many have x as their word k
 unfoldable pub countIn : ℕ → ℕ → ℕ → List ℕ → ℕ → ℕ
 countIn w k x t zero = 0
-countIn w k x t (suc n) = countIn w k x t n + cond (eqb (getD (rowIn w n t) k 0) x) 1 0
+countIn w k x t (suc n) = countIn w k x t n + bitOf (eqb (getD (rowIn w n t) k 0) x)

@@ -20,6 +20,7 @@ use board::layout::ROTATIONS_AT;
 use board::layout::SEAT_WIDTH;
 use board::layout::SEATS_AT;
 use board::layout::SEATS_SIZE;
+use board::machines;
 use templates::number_at;
 ghost use mathlib.Core.Path.{_≡_};
 ghost use Prim.Native.Nat.{_+_, _≤_};
@@ -183,9 +184,7 @@ pub fn count_with(t: &[u64], w: usize, k: usize, x: u64) -> usize
     let mut n: usize = 0;
     let mut i: usize = 0;
     while i < all {
-        if number_at(row(t, w, i), k) == x {
-            n += 1;
-        }
+        n += machines::bit(number_at(row(t, w, i), k) == x) as usize;
         i += 1;
     }
     n
