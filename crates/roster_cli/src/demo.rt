@@ -10,7 +10,7 @@ use crate::trying;
 // ---- the boards, as the words of a snapshot, each in a byte: epoch 5, D 2, W 3, interval 10, most 2 in flight; shard 1 with its
 // members seated and ready, its boundary, and as many machines in the pool
 
-fn read(bytes: &[u8], size: usize, board: &mut [u64; WORDS]) {
+fn read(bytes: &[u8; 1024], size: usize, board: &mut [u64; WORDS]) {
     roster::roster_read(lines::said(bytes, size), board);
 }
 

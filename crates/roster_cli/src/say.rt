@@ -40,7 +40,7 @@ pub(crate) fn lay(
 pub(crate) fn row(texts: &[u8], k: usize, numbers: &[u64]) {
     let mut line = [0u8; WIDTH];
     let n = lay(&mut line, 0, texts, k, numbers);
-    close(&line, n);
+    end(&line, n);
 }
 
 // The lines from k to before e.
@@ -129,7 +129,7 @@ fn put_mistake(line: &mut [u8; WIDTH], which: usize, n: u64) -> usize {
     )
 }
 
-fn tell_mistake(line: &[u8], at: usize, word: &[u8]) {
+fn tell_mistake(line: &[u8; WIDTH], at: usize, word: &[u8]) {
     laid(line, at);
     text(word);
     text(b"\n");

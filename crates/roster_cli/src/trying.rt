@@ -226,7 +226,7 @@ fn keep(step: u64, answer: u64, out: usize, board: &[u64; WORDS]) {
     if out == 0 {
         return;
     }
-    if (answer != 0) & !calls::is_batch(step) {
+    if (answer != 0) & !step_names::is_batch(step) {
         text(b"refused: nothing is written\n");
         return;
     }
@@ -250,7 +250,7 @@ pub struct Asked {
 
 fn make(asked: Asked, name: &[u8], draws: &[u64], board: &mut [u64; WORDS]) {
     let n = draws_within(asked.draws, draws);
-    if (0 < n) & !calls::takes_draws(asked.step) {
+    if (0 < n) & !step_names::takes_draws(asked.step) {
         say::mistake(say::NO_DRAWS_TAKEN, name);
         return;
     }
@@ -275,7 +275,7 @@ fn make_with(asked: Asked, name: &[u8], draws: &[u64; MOST_DRAWS], board: &mut [
 }
 
 fn take(step: u64, name: &[u8], board: &mut [u64; WORDS]) {
-    let k = calls::numbers_of(step);
+    let k = step_names::numbers_of(step);
     let Numeral::Number(first) = number(4, 1 <= k) else {
         return;
     };
@@ -308,7 +308,7 @@ pub(crate) fn run() {
     }
     let mut name = io::buffer();
     let n = os::arg(3, &mut name);
-    let step = calls::step_named(&name[..n]);
+    let step = step_names::step_named(&name[..n]);
     if step == 0 {
         say::mistake(say::NO_SUCH_STEP, &name[..n]);
         return;
