@@ -6,18 +6,20 @@ use mathlib.Core.Option.{Option, none, some}
 use mathlib.Core.Bool.{Bool, true, false, cond, _&&_}
 use native.Mathlib.Omega.{arith}
 use lib.Dec.{leb}
-use lib.ListN.{length}
+use lib.ListN.{length, getD}
 use Rattle.types.specs.Numbers.{Shard, Id}
 use Rattle.types.specs.Places.{isSeatedOn, isReady}
 use Rattle.types.specs.declared.Place.{Place}
 use Rattle.types.specs.declared.Place.the-variants.{Short}
 use Rattle.rules.specs.Lists.{_and_, bitOf, count, keep, insert, sort}
-use Rattle.rules.specs.Table.{at, holdsAt}
-use Rattle.rules.specs.Board.{Board}
+use Rattle.rules.specs.Table.{Entry, at, holdsAt}
+use Rattle.rules.specs.Board.{Reshape, Board}
 use Rattle.rules.specs.Moves.{says, membersOf}
+use Rattle.rules.specs.Snapshot.{valueOf, reshapeWords}
 use Rattle.rules.specs.Schedule.{seatedThere}
 use Rattle.rules.proofs.KeptLists.{length-sort}
 use Rattle.tables.proofs.Bools.{and-is}
+use Rattle.board.specs.Layout.{reshapeHead, reshapeRow}
 use Rattle.waits.specs.declared.Members.{Members}
 use Rattle.waits.specs.Counts.{isReadyOn, Mustered}
 
@@ -86,3 +88,9 @@ mustered s b l m r i j = record {
 pub none-mustered : (s : Shard) (b : Board) → membersOf s b ≡ [] → Mustered s b (record { seated = 0; ready = 0 })
 unfolding count
 none-mustered s b n = mustered s b [] (sym n) _ refl refl
+
+-- ---- the drain's word
+
+pub drain-is : (e : Entry Reshape) → getD (reshapeRow e) 4 0 ≡ valueOf (e .val .drainBy)
+unfolding reshapeRow reshapeHead reshapeWords
+drain-is e = refl

@@ -1,11 +1,15 @@
-// What a reshape that is not scheduled waits for. Ready seats are counted in drains.
+// What a reshape that is not scheduled waits for. Ready seats are counted in drains; reshapes::fields tells whether it drains and is quiet.
 use board::committees;
+use board::layout::DRAIN_BY;
 use board::layout::MOST_COMMITTEES;
 use board::layout::MOST_MEMBERS;
 use board::layout::MOST_SEATS;
+use board::layout::RESHAPE_WIDTH;
+use board::layout::RESHAPES_AT;
 use board::machines;
 use board::settings;
 use reshapes::seats;
+use types::Epoch;
 use types::ShardId;
 ghost use mathlib.Core.Path.{_≡_};
 ghost use mathlib.Core.Bool.{true};
@@ -18,6 +22,7 @@ ghost use Rattle.rules.specs.Table.{countWhere};
 ghost use Rattle.rules.specs.Board.{Board, mostCommittees, mostMembers, mostReshapes, mostSeats, sizeOf};
 ghost use Rattle.rules.specs.WellFormed.{wellFormed};
 ghost use Rattle.rules.specs.Moves.{says};
+ghost use Rattle.rules.specs.Snapshot.{valueOf};
 ghost use Rattle.board.specs.Layout.{boardSize};
 ghost use Rattle.board.specs.Held.{Holds, noCommittee, noReshape};
 ghost use Rattle.waits.specs.Counts.{isFor, isReadyOn, Mustered};
@@ -98,4 +103,15 @@ pub fn members_on(board: &[u64], shard: ShardId) -> Members
         };
     }
     members_at(board, j, shard)
+}
+
+// ---- the drain
+
+// The epoch until which the reshape at i drains; 0 where its drain is not stamped.
+pub fn drain_by(board: &[u64], i: usize) -> Epoch
+    requires { ⌜ (length (now board) ≡ boardSize) × (i < mostReshapes) ⌝ }
+    ensures { λ r. ⌜ ((b : Board) → Holds (now (board .entry)) b → i < length (b .reshapes) → r .0 ≡ valueOf (getD (b .reshapes) i noReshape .val .drainBy)) ⌝ }
+{
+    let a = RESHAPES_AT + 1 + i * RESHAPE_WIDTH;
+    Epoch(board[a + DRAIN_BY])
 }
