@@ -1,0 +1,4 @@
+pub mod Texts
+pub mod Answers
+pub mod Places
+pub mod Rows
