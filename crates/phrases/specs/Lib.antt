@@ -1,4 +1,2 @@
 pub mod Texts
-pub mod Answers
 pub mod Places
-pub mod Rows

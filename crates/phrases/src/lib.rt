@@ -1,6 +1,4 @@
-// What the rows and the numbers of a roster mean, in words, put in a line.
-pub mod rows;
-
+// Names, numbers and places, put in a line.
 use lines::put_number;
 use lines::put_text;
 use types::Place;
@@ -8,7 +6,6 @@ ghost use mathlib.Core.Bool.{cond};
 ghost use mathlib.Core.List.{_++_};
 ghost use Rattle.lines.specs.Says.{Puts};
 ghost use Rattle.lines.specs.Numeral.{numeral};
-ghost use Rattle.phrases.specs.Answers.{answerText};
 ghost use Rattle.phrases.specs.Places.{placeText, seatedText, memberText};
 
 // A number after its name, right-aligned in a column.
@@ -50,48 +47,6 @@ pub fn put_either(line: &mut [u8], at: usize, test: bool, yes: &[u8], no: &[u8])
         return put_text(line, at, yes);
     }
     put_text(line, at, no)
-}
-
-// What an answer says, as in document 01's table.
-pub fn put_answer(line: &mut [u8], at: usize, answer: u64) -> usize
-    ensures { λ r. ⌜ Puts (now (line .entry)) at (answerText answer) (now (line .exit)) r ⌝ }
-{
-    match answer {
-        0 => put_text(line, at, b"done"),
-        1 => put_text(line, at, b"the board is not well-formed"),
-        2 => put_text(line, at, b"tick at the last epoch"),
-        3 => put_text(
-            line,
-            at,
-            b"shard 0 or over 65535, a reshape's target over 32767, or a side over 1",
-        ),
-        4 => put_text(line, at, b"the machine has no record"),
-        5 => put_text(line, at, b"a boundary is missing"),
-        6 => put_text(
-            line,
-            at,
-            b"no such reshape, seat or side, no split to lapse, or a cohort's need is unmet",
-        ),
-        7 => put_text(
-            line,
-            at,
-            b"another reshape names a shard of the family, or its committees do not fit",
-        ),
-        8 => put_text(
-            line,
-            at,
-            b"the victim is not seated there, or is already in a rotation there",
-        ),
-        9 => put_text(line, at, b"the next needed draw is missing"),
-        10 => put_text(line, at, b"the next draw is larger than allowed"),
-        11 => put_text(
-            line,
-            at,
-            b"a limit would be passed, or an id would stand twice in a committee",
-        ),
-        12 => put_text(line, at, b"a cohort is drawn from fewer than S pooled"),
-        _ => put_text(line, at, b"the snapshot is not a well-formed board's"),
-    }
 }
 
 pub fn put_place(line: &mut [u8], at: usize, place: Place) -> usize

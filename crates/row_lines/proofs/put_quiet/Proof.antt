@@ -1,8 +1,8 @@
 use borrow.Author.Needs.{needs}
 use Rattle.phrases.specs.Texts.{bytes}
-use Rattle.phrases.specs.Rows.{quietText}
-use Rattle.phrases.proofs.rows.put_quiet.Statement.{statement}
-use Rattle.phrases.proofs.rows.put_quiet.Tie as tie
+use Rattle.row_lines.specs.Rows.{quietText}
+use Rattle.row_lines.proofs.put_quiet.Statement.{statement}
+use Rattle.row_lines.proofs.put_quiet.Tie as tie
 
 returns : tie.Need-returns
 unfolding bytes quietText

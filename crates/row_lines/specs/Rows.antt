@@ -3,8 +3,8 @@ use Prim.Native.Nat.{ℕ}
 use mathlib.Core.Bool.{Bool, cond}
 use mathlib.Core.List.{List, _++_}
 use Rattle.lines.specs.Numeral.{numeral}
 use Rattle.phrases.specs.Texts.{bytes, named, column, either}
-use Rattle.phrases.specs.declared.rows.Progress.{Progress}
+use Rattle.row_lines.specs.declared.Progress.{Progress}
 
 unfoldable pub rotationText : ℕ → ℕ → ℕ → ℕ → List ℕ
 rotationText shard victim entrant opened = column "  shard " 5 shard ++ column "  victim " 20 victim ++ column "  entrant " 20 entrant ++ column "  opened " 10 opened

@@ -1,16 +1,16 @@
 // The rows of a roster's tables, in words.
-use crate::put_column;
-use crate::put_column_or;
-use crate::put_either;
-use crate::put_named;
 use lines::put_number;
 use lines::put_text;
+use phrases::put_column;
+use phrases::put_column_or;
+use phrases::put_either;
+use phrases::put_named;
 use types::BlockHeight;
 use types::Epoch;
 use types::ShardId;
 use types::ValidatorId;
 ghost use Rattle.lines.specs.Says.{Puts};
-ghost use Rattle.phrases.specs.Rows.{rotationText, seatText, boundaryText, endsText, reshapeText, quietText, progressText};
+ghost use Rattle.row_lines.specs.Rows.{rotationText, seatText, boundaryText, endsText, reshapeText, quietText, progressText};
 
 pub fn put_rotation(
     line: &mut [u8],
