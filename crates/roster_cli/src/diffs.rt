@@ -10,7 +10,6 @@ use crate::say::put;
 use crate::say::text;
 use crate::say::words;
 use crate::show;
-use crate::words::put_place;
 use board::committees;
 use board::layout::BOARD_SIZE;
 use board::layout::BOUNDARY_WIDTH;
@@ -36,6 +35,7 @@ use board::layout::SIZE;
 use board::machines;
 use board::settings;
 use differences::Difference;
+use phrases::put_place;
 use reshapes::seats as cohort;
 
 // The tables.

@@ -11,7 +11,6 @@ mod rows_of;
 mod say;
 mod show;
 mod trying;
-mod words;
 
 fn main() {
     if (os::arg_count() < 2) | args::is(1, b"demo") {

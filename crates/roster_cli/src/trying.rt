@@ -8,7 +8,6 @@ use crate::say;
 use crate::say::WIDTH;
 use crate::say::put;
 use crate::say::text;
-use crate::words;
 use numerals::Numeral;
 use numerals::Parsed;
 ghost use Rattle.io.specs.Counts.{Counts};
@@ -166,7 +165,7 @@ pub(crate) fn tell(answer: u64, results: &[u64; 2]) {
     let mut line = [0u8; WIDTH];
     let a = put(&mut line, 0, b"answer ", answer);
     let b = say::words(&mut line, a, b": ");
-    let c = words::put_answer(&mut line, b, answer);
+    let c = answers::put_answer(&mut line, b, answer);
     say::end(&line, c);
     let mut counts = [0u8; WIDTH];
     let d = put(&mut counts, 0, b"handled ", results[0]);
@@ -179,7 +178,7 @@ fn keep(step: u64, answer: u64, out: usize, board: &[u64; WORDS]) {
     if out == 0 {
         return;
     }
-    if (answer != 0) & !calls::is_batch(step) {
+    if (answer != 0) & !step_names::is_batch(step) {
         text(b"refused: nothing is written\n");
         return;
     }
@@ -203,7 +202,7 @@ pub struct Asked {
 
 fn make(asked: Asked, name: &[u8], draws: &[u64], board: &mut [u64; WORDS]) {
     let n = draws_within(asked.draws, draws);
-    if (0 < n) & !calls::takes_draws(asked.step) {
+    if (0 < n) & !step_names::takes_draws(asked.step) {
         say::mistake(b"this step takes no draws: ", name);
         return;
     }
@@ -228,7 +227,7 @@ fn make_with(asked: Asked, name: &[u8], draws: &[u64; MOST_DRAWS], board: &mut [
 }
 
 fn take(step: u64, name: &[u8], board: &mut [u64; WORDS]) {
-    let k = calls::numbers_of(step);
+    let k = step_names::numbers_of(step);
     let Numeral::Number(first) = number(4, 1 <= k) else {
         return;
     };
@@ -261,7 +260,7 @@ pub(crate) fn run() {
     }
     let mut name = io::buffer();
     let n = os::arg(3, &mut name);
-    let step = calls::step_named(&name[..n]);
+    let step = step_names::step_named(&name[..n]);
     if step == 0 {
         say::mistake(
             b"there is no such step (./roster help lists them): ",

@@ -2,9 +2,19 @@
 use Prim.Native.Nat.{ℕ}
 use mathlib.Core.Bool.{Bool, cond}
 use mathlib.Core.List.{List, _++_}
+use Rattle.types.specs.Places.{isSeatedOn, observes}
+use Rattle.types.specs.declared.Place.{Place}
 use Rattle.lines.specs.Numeral.{numeral}
 use Rattle.phrases.specs.Texts.{bytes, named, column, either}
+use Rattle.phrases.specs.Places.{placeText, memberText}
 use Rattle.row_lines.specs.declared.Progress.{Progress}
+
+-- a member of a committee of the shard, and where it is
+unfoldable pub memberRowText : ℕ → ℕ → Place → ℕ → List ℕ
+memberRowText shard id place wait =
+    numeral 22 id
+    ++ bytes "  "
+    ++ cond (isSeatedOn shard place) (memberText wait place) (cond (observes shard place) (memberText wait place) (bytes "not here: " ++ placeText place))
 
 unfoldable pub rotationText : ℕ → ℕ → ℕ → ℕ → List ℕ
 rotationText shard victim entrant opened = column "  shard " 5 shard ++ column "  victim " 20 victim ++ column "  entrant " 20 entrant ++ column "  opened " 10 opened

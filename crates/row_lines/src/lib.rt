@@ -4,13 +4,39 @@ use lines::put_text;
 use phrases::put_column;
 use phrases::put_column_or;
 use phrases::put_either;
+use phrases::put_member;
 use phrases::put_named;
+use phrases::put_place;
 use types::BlockHeight;
 use types::Epoch;
+use types::Place;
 use types::ShardId;
 use types::ValidatorId;
 ghost use Rattle.lines.specs.Says.{Puts};
-ghost use Rattle.row_lines.specs.Rows.{rotationText, seatText, boundaryText, endsText, reshapeText, quietText, progressText};
+ghost use Rattle.row_lines.specs.Rows.{memberRowText, rotationText, seatText, boundaryText, endsText, reshapeText, quietText, progressText};
+
+// A member of a shard's committee, and where it is.
+pub fn put_member_row(
+    line: &mut [u8],
+    at: usize,
+    shard: ShardId,
+    id: ValidatorId,
+    place: Place,
+    wait: u64,
+) -> usize
+    ensures { λ r. ⌜ Puts (now (line .entry)) at (memberRowText (shard .0) (id .0) place wait) (now (line .exit)) r ⌝ }
+{
+    let a = put_number(line, at, 22, id.0);
+    let b = put_text(line, a, b"  ");
+    if place.is_seated_on(shard) {
+        return put_member(line, b, place, wait);
+    }
+    if place.observes_shard(shard) {
+        return put_member(line, b, place, wait);
+    }
+    let c = put_text(line, b, b"not here: ");
+    put_place(line, c, place)
+}
 
 pub fn put_rotation(
     line: &mut [u8],
