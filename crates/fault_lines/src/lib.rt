@@ -28,12 +28,6 @@ pub enum ReshapeFault {
     Unfounded,
 }
 
-pub enum Clause {
-    OfMachines(MachineFault),
-    OfRotations(RotationFault),
-    OfReshapes(ReshapeFault),
-}
-
 fn put_machine_wrong(line: &mut [u8], at: usize, fault: MachineFault, shard: u64) -> usize
     ensures { λ r. ⌜ Puts (now (line .entry)) at (machineWrong fault shard) (now (line .exit)) r ⌝ }
 {

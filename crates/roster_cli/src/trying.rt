@@ -163,8 +163,8 @@ fn number(i: usize, wanted: bool) -> Numeral {
 
 pub(crate) fn tell(answer: u64, results: &[u64; 2]) {
     let mut line = [0u8; WIDTH];
-    let a = put(&mut line, 0, b"answer ", answer);
-    let b = say::words(&mut line, a, b": ");
+    let a = phrases::put_named(&mut line, 0, b"answer ", answer);
+    let b = lines::put_text(&mut line, a, b": ");
     let c = answers::put_answer(&mut line, b, answer);
     say::end(&line, c);
     let mut counts = [0u8; WIDTH];
