@@ -9,45 +9,16 @@ Inv-loop clause board n i₀ i = Unit {0}
 abbrev μ-loop : tie.MeasureT-loop
 μ-loop clause board n i₀ i = n - i
 
-rows-outside-requires : tie.Need-rows-outside-requires Inv-loop μ-loop
-rows-outside-requires c κs = search needs
-
-loop-holds : tie.Need-loop-holds Inv-loop μ-loop
-loop-holds c = search needs
-
-first-of-requires : tie.Need-first-of-requires Inv-loop μ-loop
-first-of-requires c κs = search needs
-
-rows-inside-requires : tie.Need-rows-inside-requires Inv-loop μ-loop
-rows-inside-requires c κs = search needs
-
-walk-requires : tie.Need-walk-requires Inv-loop μ-loop
-walk-requires c κs = search needs
-
-add-i : tie.Need-add-i Inv-loop μ-loop
-add-i c = search needs
-
-loop-less : tie.Need-loop-less Inv-loop μ-loop
-loop-less c = search needs
-
-loop-again : tie.Need-loop-again Inv-loop μ-loop
-loop-again c = search needs
-
-returns : tie.Need-returns Inv-loop μ-loop
-returns c = search needs
-
 pub over-spec : {M : Type 1} → statement M
 over-spec =
     tie.close
     (tie.spec
     Inv-loop
     μ-loop
-    rows-outside-requires
-    loop-holds
-    first-of-requires
-    rows-inside-requires
-    walk-requires
-    add-i
-    loop-less
-    loop-again
-    returns)
+    (λ c κs. search needs)
+    (λ c. search needs)
+    (λ c κs. search needs)
+    (λ c. search needs)
+    (λ c. search needs)
+    (λ c. search needs)
+    (λ c. search needs))
