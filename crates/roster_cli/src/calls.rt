@@ -12,13 +12,7 @@ fn make_plain(step: u64, board: &mut [u64], results: &mut [u64; 2]) -> u64 {
     }
 }
 
-fn make_with(
-    step: u64,
-    first: u64,
-    second: u64,
-    board: &mut [u64],
-    results: &mut [u64; 2],
-) -> u64 {
+fn make_with(step: u64, first: u64, second: u64, board: &mut [u64], results: &mut [u64; 2]) -> u64 {
     match step {
         2 => roster::roster_admit_split(board, first, results),
         4 => roster::roster_mark_seat_ready(board, first, second, results),

@@ -7,6 +7,7 @@ use crate::lined;
 use crate::lined::begin;
 use crate::lined::put_place;
 use crate::lists;
+use crate::rows_of;
 use crate::say;
 use crate::say::WIDTH;
 use crate::say::end;
@@ -65,12 +66,20 @@ fn next_in(which: u64, a: &[u64], b: &[u64], k: usize, l: usize) -> Apart {
     told(differences::next_difference(pairs, width, a, b, k, l))
 }
 
-// Where the walk goes on: past row k, unless it stands in the other board alone.
-fn past(k: usize, is_passed: bool) -> usize {
+fn one_more(k: usize, is_passed: bool) -> usize {
     if is_passed {
         return std::num::wrapping_add_usize(k, 1);
     }
     k
+}
+
+// Where the walk goes on: past both rows, or past the one that stands alone.
+fn past(d: Apart) -> Apart {
+    apart_at(
+        d.how,
+        one_more(d.k, d.how != NEW),
+        one_more(d.l, d.how != GONE),
+    )
 }
 
 // ---- a row in one board
@@ -93,90 +102,112 @@ fn head(before: usize, k: usize, row: &[u64]) {
     end(&line, b);
 }
 
-fn machine(before: usize, row: &[u64]) {
+fn put_machine(line: &mut [u8; WIDTH], before: usize, board: &[u64; WORDS], i: usize) -> usize {
+    let a = begin(line, before);
+    let b = put_text(line, a, 0, facts::row(board, MACHINES, 0, i));
+    put_place(line, b, board, i)
+}
+
+fn machine(before: usize, board: &[u64; WORDS], i: usize) {
     let mut line = [0u8; WIDTH];
-    let a = begin(&mut line, before);
-    let b = put_text(&mut line, a, 0, row);
-    let c = put_place(&mut line, b, row);
-    end(&line, c);
+    let a = put_machine(&mut line, before, board, i);
+    end(&line, a);
 }
 
 fn reshape(before: usize, board: &[u64; WORDS], i: usize) {
     lined::reshape_head(before, board, i);
     lined::reshape_state(lined::INSIDE, board, i);
-    lined::seats(board, i);
+    rows_of::each(
+        rows_of::INSIDE_SEATS,
+        board,
+        i,
+        facts::count(board, SEATS, i),
+    );
     lists::list_halves(board, i);
 }
 
+fn committee(before: usize, board: &[u64; WORDS], i: usize) {
+    head(before, 1, facts::row(board, COMMITTEES, 0, i));
+    lists::list(facts::ids(board, MEMBERS, i));
+}
+
+fn boundary(before: usize, board: &[u64; WORDS], i: usize) {
+    head(before, 2, &[]);
+    rows_of::boundary(board, i);
+}
+
+fn rotation(before: usize, board: &[u64; WORDS], i: usize) {
+    head(before, 3, &[]);
+    rows_of::rotation(board, i);
+}
+
 fn row(which: u64, before: usize, board: &[u64; WORDS], i: usize) {
-    if which == RESHAPES {
-        return reshape(before, board, i);
+    match which {
+        0 => machine(before, board, i),
+        1 => committee(before, board, i),
+        2 => boundary(before, board, i),
+        3 => rotation(before, board, i),
+        _ => reshape(before, board, i),
     }
-    let row = facts::row(board, which, 0, i);
-    if which == MACHINES {
-        return machine(before, row);
-    }
-    head(before, which as usize, row);
-    if which == COMMITTEES {
-        return lists::list(facts::ids(board, MEMBERS, i));
-    }
-    if which == BOUNDARIES {
-        return lined::boundary(row);
-    }
-    lined::rotation(row);
 }
 
 // ---- a row in both
 
-fn became(row: &[u64]) {
+fn became(board: &[u64; WORDS], i: usize) {
     let mut line = [0u8; WIDTH];
     let a = begin(&mut line, lined::BECAME);
-    let b = put_place(&mut line, a, row);
+    let b = put_place(&mut line, a, board, i);
     end(&line, b);
 }
 
 // On one line where both places fit.
-fn changed_machine(was: &[u64], is: &[u64]) {
+fn changed_machine(a: &[u64; WORDS], i: usize, b: &[u64; WORDS], j: usize) {
     let mut line = [0u8; WIDTH];
-    let a = begin(&mut line, lined::INDENTED);
-    let b = put_text(&mut line, a, 0, was);
-    let c = put_place(&mut line, b, was);
+    let c = put_machine(&mut line, lined::INDENTED, a, i);
     if 48 < c {
         end(&line, c);
-        return became(is);
+        return became(b, j);
     }
-    let d = put_text(&mut line, c, 4, was);
-    let e = put_place(&mut line, d, is);
+    let d = put_text(&mut line, c, 4, &[]);
+    let e = put_place(&mut line, d, b, j);
     end(&line, e);
 }
 
-fn seat_apart(d: Apart, was: &[u64], is: &[u64]) {
+fn seat_apart(d: Apart, a: &[u64; WORDS], i: usize, b: &[u64; WORDS], j: usize) {
     if d.how == GONE {
-        return lined::seat(lined::GONE_INSIDE, was);
+        return lined::seat(lined::SEAT_GONE, a, i, d.k);
     }
     if d.how == NEW {
-        return lined::seat(lined::NEW_INSIDE, is);
+        return lined::seat(lined::SEAT_NEW, b, j, d.l);
     }
-    lined::seat(lined::WAS_INSIDE, was);
-    lined::seat(lined::IS_INSIDE, is);
+    lined::seat(lined::SEAT_WAS, a, i, d.k);
+    lined::seat(lined::SEAT_IS, b, j, d.l);
 }
 
 // More than two tables have rows.
 const MOST_TURNS: u64 = 1024;
 
-fn walk_seats(a: &[u64], b: &[u64]) {
-    let w = sections::row_width(SEATS);
-    let mut k: usize = 0;
-    let mut l: usize = 0;
+fn next(which: u64, a: &[u64; WORDS], i: usize, b: &[u64; WORDS], j: usize, at: Apart) -> Apart {
+    next_in(
+        which,
+        facts::table(a, which, i),
+        facts::table(b, which, j),
+        at.k,
+        at.l,
+    )
+}
+
+// The seats of reshape i of one board and j of the other.
+fn walk_seats(a: &[u64; WORDS], i: usize, b: &[u64; WORDS], j: usize) {
+    let mut at = apart_at(SAME, 0, 0);
     let mut left = MOST_TURNS;
     while 0 < left {
-        let d = next_in(SEATS, a, b, k, l);
+        let d = next(SEATS, a, i, b, j, at);
         if d.how == SAME {
             return;
         }
-        seat_apart(d, sections::row(a, w, d.k), sections::row(b, w, d.l));
-        k = past(d.k, d.how != NEW);
-        l = past(d.l, d.how != GONE);
+        seat_apart(d, a, i, b, j);
+        at = past(d);
         left -= 1;
     }
 }
@@ -189,7 +220,7 @@ fn changed_reshape(a: &[u64; WORDS], i: usize, b: &[u64; WORDS], j: usize) {
     lined::reshape_head(lined::INDENTED, b, j);
     lined::reshape_state(lined::WAS_INSIDE, a, i);
     lined::reshape_state(lined::IS_INSIDE, b, j);
-    walk_seats(facts::table(a, SEATS, i), facts::table(b, SEATS, j));
+    walk_seats(a, i, b, j);
     if same_ids(LEFT, a, i, b, j) & same_ids(RIGHT, a, i, b, j) {
         return;
     }
@@ -198,7 +229,7 @@ fn changed_reshape(a: &[u64; WORDS], i: usize, b: &[u64; WORDS], j: usize) {
 
 fn changed(which: u64, a: &[u64; WORDS], i: usize, b: &[u64; WORDS], j: usize) {
     if which == MACHINES {
-        return changed_machine(facts::row(a, MACHINES, 0, i), facts::row(b, MACHINES, 0, j));
+        return changed_machine(a, i, b, j);
     }
     if which == RESHAPES {
         return changed_reshape(a, i, b, j);
@@ -219,29 +250,17 @@ fn row_apart(which: u64, d: Apart, a: &[u64; WORDS], b: &[u64; WORDS]) {
 
 // ---- the whole
 
-fn next(which: u64, a: &[u64; WORDS], b: &[u64; WORDS], k: usize, l: usize) -> Apart {
-    next_in(
-        which,
-        facts::table(a, which, 0),
-        facts::table(b, which, 0),
-        k,
-        l,
-    )
-}
-
 // The differences of a table: whether there is one.
 fn walk(which: u64, a: &[u64; WORDS], b: &[u64; WORDS]) -> bool {
-    let mut k: usize = 0;
-    let mut l: usize = 0;
+    let mut at = apart_at(SAME, 0, 0);
     let mut left = MOST_TURNS;
     while 0 < left {
-        let d = next(which, a, b, k, l);
+        let d = next(which, a, 0, b, 0, at);
         if d.how == SAME {
             return left < MOST_TURNS;
         }
         row_apart(which, d, a, b);
-        k = past(d.k, d.how != NEW);
-        l = past(d.l, d.how != GONE);
+        at = past(d);
         left -= 1;
     }
     true

@@ -9,6 +9,7 @@ mod files;
 mod help;
 mod lined;
 mod lists;
+mod rows_of;
 mod say;
 mod show;
 mod trying;

@@ -1,8 +1,6 @@
 // What is written to standard output: lines of at most 100 bytes, and mistakes. Texts stand in tables of lines, and are named
 // by their number there: the prover takes one long text more lightly than many short ones.
 use libc::STDOUT_FILENO;
-use lines::put_number;
-use lines::put_text;
 use templates::fill;
 use templates::line_at;
 
@@ -50,15 +48,6 @@ pub(crate) fn all(texts: &[u8], k: usize, e: usize) {
         row(texts, i, &[]);
         i += 1;
     }
-}
-
-pub(crate) fn words(line: &mut [u8; WIDTH], at: usize, words: &[u8]) -> usize {
-    put_text(line, at, words)
-}
-
-// A number right-aligned in a column.
-pub(crate) fn column(line: &mut [u8; WIDTH], at: usize, width: usize, n: u64) -> usize {
-    put_number(line, at, width, n)
 }
 
 // ---- mistakes

@@ -10,12 +10,12 @@ use crate::lists::POOLED;
 use crate::lists::SEATED;
 use crate::lists::SHORT;
 use crate::lists::WATCHING;
+use crate::rows_of;
 use crate::say;
 use crate::say::text;
 use sections::BOUNDARIES;
 use sections::COMMITTEES;
 use sections::MACHINES;
-use sections::MEMBERS;
 use sections::RESHAPES;
 use sections::ROTATIONS;
 use sections::SEATS;
@@ -62,14 +62,6 @@ fn totals(board: &[u64; WORDS]) {
 
 // ---- committees
 
-fn members(board: &[u64; WORDS], shard: u64, ids: &[u64]) {
-    let mut k: usize = 0;
-    while k < ids.len() {
-        lined::member(board, shard, ids[k]);
-        k += 1;
-    }
-}
-
 fn committee(board: &[u64; WORDS], j: usize) {
     let row = facts::row(board, COMMITTEES, 0, j);
     let shard = number_at(row, 0);
@@ -83,7 +75,12 @@ fn committee(board: &[u64; WORDS], j: usize) {
             facts::ready(board, shard),
         ],
     );
-    members(board, shard, facts::ids(board, MEMBERS, j));
+    rows_of::each(
+        rows_of::INSIDE_MEMBERS,
+        board,
+        j,
+        number_at(row, 1) as usize,
+    );
 }
 
 // ---- what a reshape that is not scheduled waits for
@@ -146,7 +143,12 @@ fn reshape(board: &[u64; WORDS], i: usize) {
     lined::reshape_head(lined::NOTHING, board, i);
     lined::reshape_state(lined::INDENTED, board, i);
     gate(board, i);
-    lined::seats(board, i);
+    rows_of::each(
+        rows_of::INSIDE_SEATS,
+        board,
+        i,
+        facts::count(board, SEATS, i),
+    );
     lists::list_halves(board, i);
 }
 
@@ -155,8 +157,8 @@ fn reshape(board: &[u64; WORDS], i: usize) {
 fn one(which: u64, board: &[u64; WORDS], i: usize) {
     match which {
         1 => committee(board, i),
-        2 => lined::boundary(facts::row(board, BOUNDARIES, 0, i)),
-        3 => lined::rotation(facts::row(board, ROTATIONS, 0, i)),
+        2 => rows_of::boundary(board, i),
+        3 => rows_of::rotation(board, i),
         _ => reshape(board, i),
     }
 }

@@ -178,29 +178,6 @@ fn number(i: usize, wanted: bool) -> Numeral {
     args::number(i)
 }
 
-fn put_answer(line: &mut [u8; WIDTH], at: usize, answer: usize) -> usize {
-    lay(
-        line,
-        at,
-        b"done\n\
-          the board is not well-formed\n\
-          tick at the last epoch\n\
-          shard 0 or over 65535, a reshape's target over 32767, or a side over 1\n\
-          the machine has no record\n\
-          a boundary is missing\n\
-          no such reshape, seat or side, no split to lapse, or a cohort's need is unmet\n\
-          another reshape names a shard of the family, or its committees do not fit\n\
-          the victim is not seated there, or is already in a rotation there\n\
-          the next needed draw is missing\n\
-          the next draw is larger than allowed\n\
-          a limit would be passed, or an id would stand twice in a committee\n\
-          a cohort is drawn from fewer than S pooled\n\
-          the snapshot is not a well-formed board's\n",
-        answer,
-        &[],
-    )
-}
-
 fn put_results(line: &mut [u8; WIDTH], k: usize, numbers: &[u64]) -> usize {
     lay(
         line,
@@ -214,7 +191,7 @@ fn put_results(line: &mut [u8; WIDTH], k: usize, numbers: &[u64]) -> usize {
 pub(crate) fn tell(answer: u64, results: &[u64; 2]) {
     let mut line = [0u8; WIDTH];
     let a = put_results(&mut line, 0, &[answer]);
-    let b = put_answer(&mut line, a, answer as usize);
+    let b = answers::put_answer(&mut line, a, answer);
     end(&line, b);
     let mut counts = [0u8; WIDTH];
     let c = put_results(&mut counts, 1, results);

@@ -4,7 +4,7 @@ use Prim.Native.String.{String}
 use mathlib.Core.Bool.{Bool, true, false, _&&_, cond}
 use mathlib.Core.List.{List, [], _∷_}
 use lib.Dec.{eqb}
-use Rattle.step_names.specs.Texts.{bytes}
+use Rattle.phrases.specs.Texts.{bytes}
 
 -- a clerk may write '-' (45) for '_' (95)
 abbrev pub underscored : ℕ → ℕ
