@@ -39,7 +39,7 @@ fn started() -> [u8; WIDTH] {
     [b' '; WIDTH]
 }
 
-pub(crate) fn list(ids: &[u64]) {
+fn list_some(ids: &[u64]) {
     let mut line = started();
     let mut at: usize = 4;
     let mut i: usize = 0;
@@ -48,6 +48,13 @@ pub(crate) fn list(ids: &[u64]) {
         i += 1;
     }
     end(&line, at);
+}
+
+pub(crate) fn list(ids: &[u64]) {
+    if ids.len() == 0 {
+        return;
+    }
+    list_some(ids);
 }
 
 // Those that a scheduled split sends to its left and to its right child.

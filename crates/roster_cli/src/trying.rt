@@ -188,10 +188,14 @@ fn put_results(line: &mut [u8; WIDTH], k: usize, numbers: &[u64]) -> usize {
     )
 }
 
+fn put_answer(line: &mut [u8; WIDTH], at: usize, answer: u64) -> usize {
+    answers::put_answer(line, at, answer)
+}
+
 pub(crate) fn tell(answer: u64, results: &[u64; 2]) {
     let mut line = [0u8; WIDTH];
     let a = put_results(&mut line, 0, &[answer]);
-    let b = answers::put_answer(&mut line, a, answer);
+    let b = put_answer(&mut line, a, answer);
     end(&line, b);
     let mut counts = [0u8; WIDTH];
     let c = put_results(&mut counts, 1, results);

@@ -20,38 +20,20 @@ abbrev μ-loop : tie.MeasureT-loop
 μ-loop t w k x all n₀ i₀ n i = all - i
 
 -- src/lib.rt:183:15
-number-at-requires : tie.Need-number-at-requires Inv-loop μ-loop
-number-at-requires c κs = search needs
-
 -- src/lib.rt:186:5
 loop-holds : tie.Need-loop-holds Inv-loop μ-loop
 unfolding countIn
 loop-holds c = (omega arith, omega arith, c .number-at .ensures, refl)
 
 -- src/lib.rt:187:38
-row-requires : tie.Need-row-requires Inv-loop μ-loop
-row-requires c κs = search needs
-
 -- src/lib.rt:187:28
-number-at-requires-2 : tie.Need-number-at-requires-2 Inv-loop μ-loop
-number-at-requires-2 c κs = search needs
-
 -- src/lib.rt:187:14
-bit-requires : tie.Need-bit-requires Inv-loop μ-loop
-bit-requires c κs = search needs
-
 -- src/lib.rt:187:9
 add-n : tie.Need-add-n Inv-loop μ-loop
 add-n c = let a = c .before .before .before .before .before .before .before .args in let s = bit-small (a .w) (a .k) (a .x) (a .t .now) _ (c .before .before .before .before .loop .n) (c .before .before .before .before .loop .i) _ _ (c .before .before .row .ensures) (c .before .number-at2 .ensures) (c .bit .ensures) in omega arith
 
 -- src/lib.rt:188:9
-add-i : tie.Need-add-i Inv-loop μ-loop
-add-i c = search needs
-
 -- src/lib.rt:186:5
-loop-less : tie.Need-loop-less Inv-loop μ-loop
-loop-less c = search needs
-
 -- src/lib.rt:186:5
 loop-again : tie.Need-loop-again Inv-loop μ-loop
 loop-again c = let a = c .before .before .before .before .before .before .before .args in
@@ -69,13 +51,13 @@ count-with-spec =
     (tie.spec
     Inv-loop
     μ-loop
-    number-at-requires
+    (λ c κs. search needs)
     loop-holds
-    row-requires
-    number-at-requires-2
-    bit-requires
+    (λ c κs. search needs)
+    (λ c κs. search needs)
+    (λ c κs. search needs)
     add-n
-    add-i
-    loop-less
+    (λ c. search needs)
+    (λ c. search needs)
     loop-again
     returns)

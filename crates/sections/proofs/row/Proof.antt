@@ -6,26 +6,11 @@ use borrow.Author.Needs.{needs}
 use Rattle.sections.proofs.row.Statement.{statement}
 use Rattle.sections.proofs.row.Tie as tie
 
-slice-aggregate-result : tie.Need-slice-aggregate-result
-slice-aggregate-result c = search needs
-
 returns : tie.Need-returns
 returns c = sym (row-of-none (c .before .before .args .w) (c .before .before .args .i) (c .before .before .args .t .now) (omega arith))
 
-slice-aggregate-result-2 : tie.Need-slice-aggregate-result-2
-slice-aggregate-result-2 c = search needs
-
 returns-2 : tie.Need-returns-2
 returns-2 c = sym (row-of-zero (c .before .before .before .args .w) (c .before .before .before .args .i) (c .before .before .before .args .t .now) (c .before .if2 .taken) (omega arith))
-
-sub-if3 : tie.Need-sub-if3
-sub-if3 c = search needs
-
-div-if3 : tie.Need-div-if3
-div-if3 c = search needs
-
-slice-aggregate-result-3 : tie.Need-slice-aggregate-result-3
-slice-aggregate-result-3 c = search needs
 
 returns-3 : tie.Need-returns-3
 returns-3 c = sym (row-past (c .before .before .before .before .args .w) (c .before .before .before .before .args .i) (c .before .before .before .before .args .t .now) (omega arith) (omega arith) (c .before .if3 .taken))
@@ -42,12 +27,6 @@ add-e c = let h = row-within (c .before .before .before .args .w) (c .before .be
 mul-result : tie.Need-mul-result
 mul-result c = let h = row-within (c .before .before .before .args .w) (c .before .before .before .args .i) (c .before .before .before .args .t .now) (omega arith) (omega arith) (omega arith) in search needs
 
-sub-result : tie.Need-sub-result
-sub-result c = search needs
-
-part-result-start : tie.Need-part-result-start
-part-result-start c = search needs
-
 part-result-end : tie.Need-part-result-end
 part-result-end c = let h = row-within (c .before .before .before .args .w) (c .before .before .before .args .i) (c .before .before .before .args .t .now) (omega arith) (omega arith) (omega arith) in search needs
 
@@ -58,19 +37,19 @@ pub row-spec : {M : Type 1} → statement M
 row-spec =
     tie.close
     (tie.spec
-    slice-aggregate-result
+    (λ c. search needs)
     returns
-    slice-aggregate-result-2
+    (λ c. search needs)
     returns-2
-    sub-if3
-    div-if3
-    slice-aggregate-result-3
+    (λ c. search needs)
+    (λ c. search needs)
+    (λ c. search needs)
     returns-3
     mul-s
     add-s
     add-e
     mul-result
-    sub-result
-    part-result-start
+    (λ c. search needs)
+    (λ c. search needs)
     part-result-end
     returns-4)

@@ -7,33 +7,6 @@ use borrow.Author.Needs.{needs}
 use Rattle.sections.proofs.span_of.Statement.{statement}
 use Rattle.sections.proofs.span_of.Tie as tie
 
-sub-t4 : tie.Need-sub-t4
-sub-t4 c = search needs
-
-sub-t5 : tie.Need-sub-t5
-sub-t5 c = search needs
-
-sub-t6 : tie.Need-sub-t6
-sub-t6 c = search needs
-
-sub-t7 : tie.Need-sub-t7
-sub-t7 c = search needs
-
-sub-t8 : tie.Need-sub-t8
-sub-t8 c = search needs
-
-in-committee-requires : tie.Need-in-committee-requires
-in-committee-requires c κs = search needs
-
-in-reshape-requires : tie.Need-in-reshape-requires
-in-reshape-requires c κs = search needs
-
-in-reshape-requires-2 : tie.Need-in-reshape-requires-2
-in-reshape-requires-2 c κs = search needs
-
-in-reshape-requires-3 : tie.Need-in-reshape-requires-3
-in-reshape-requires-3 c κs = search needs
-
 returns : tie.Need-returns
 unfolding spanOf spans
 returns c = let e : c .before .args .which ≡ 0 = omega arith in (rw e, omega arith)
@@ -82,15 +55,15 @@ pub span-of-spec : {M : Type 1} → statement M
 span-of-spec =
     tie.close
     (tie.spec
-    sub-t4
-    sub-t5
-    sub-t6
-    sub-t7
-    sub-t8
-    in-committee-requires
-    in-reshape-requires
-    in-reshape-requires-2
-    in-reshape-requires-3
+    (λ c. search needs)
+    (λ c. search needs)
+    (λ c. search needs)
+    (λ c. search needs)
+    (λ c. search needs)
+    (λ c κs. search needs)
+    (λ c κs. search needs)
+    (λ c κs. search needs)
+    (λ c κs. search needs)
     returns
     returns-2
     returns-3

@@ -17,38 +17,11 @@ abbrev μ-loop : tie.MeasureT-loop
 loop-holds : tie.Need-loop-holds Inv-loop μ-loop
 loop-holds c = (omega arith, refl)
 
-line-end-requires : tie.Need-line-end-requires Inv-loop μ-loop
-line-end-requires c κs = search needs
-
-slice-aggregate-result : tie.Need-slice-aggregate-result Inv-loop μ-loop
-slice-aggregate-result c = search needs
-
 returns : tie.Need-returns Inv-loop μ-loop
 returns c = past (c .before .before .before .before .before .before .args .text .now) (c .before .before .before .before .before .before .args .k) (c .before .before .before .before .loop .s) (c .before .before .before .before .loop .left) (c .before .before .line-end .result) (c .before .before .before .before .loop .inv .1) (c .before .before .line-end .ensures .1) (omega arith) (c .before .if1 .taken)
 
-add-s : tie.Need-add-s Inv-loop μ-loop
-add-s c = search needs
-
-sub-left : tie.Need-sub-left Inv-loop μ-loop
-sub-left c = search needs
-
-loop-less : tie.Need-loop-less Inv-loop μ-loop
-loop-less c = search needs
-
 loop-again : tie.Need-loop-again Inv-loop μ-loop
 loop-again c = (omega (arith, c .before .line-end .ensures .0, c .if1 .left), next (c .before .before .before .before .before .args .text .now) (c .before .before .before .before .before .args .k) (c .before .before .before .loop .s) (c .before .before .before .loop .left) (c .before .line-end .result) (c .before .before .before .loop .inv .1) (c .before .line-end .ensures .1) (omega arith))
-
-line-end-requires-2 : tie.Need-line-end-requires-2 Inv-loop μ-loop
-line-end-requires-2 c κs = search needs
-
-sub-result : tie.Need-sub-result Inv-loop μ-loop
-sub-result c = search needs
-
-part-result-start : tie.Need-part-result-start Inv-loop μ-loop
-part-result-start c = search needs
-
-part-result-end : tie.Need-part-result-end Inv-loop μ-loop
-part-result-end c = search needs
 
 returns-2 : tie.Need-returns-2 Inv-loop μ-loop
 returns-2 c = there (c .before .before .before .before .before .args .text .now) (c .before .before .before .before .before .args .k) (c .before .before .before .loop .s) (c .before .before .before .loop .left) (c .before .line-end2 .result) (c .before .before .before .loop .inv .1) (c .before .line-end2 .ensures .1) (omega arith)
@@ -60,15 +33,15 @@ line-at-spec =
     Inv-loop
     μ-loop
     loop-holds
-    line-end-requires
-    slice-aggregate-result
+    (λ c κs. search needs)
+    (λ c. search needs)
     returns
-    add-s
-    sub-left
-    loop-less
+    (λ c. search needs)
+    (λ c. search needs)
+    (λ c. search needs)
     loop-again
-    line-end-requires-2
-    sub-result
-    part-result-start
-    part-result-end
+    (λ c κs. search needs)
+    (λ c. search needs)
+    (λ c. search needs)
+    (λ c. search needs)
     returns-2)

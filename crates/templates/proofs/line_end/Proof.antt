@@ -18,17 +18,8 @@ abbrev μ-loop : tie.MeasureT-loop
 loop-holds : tie.Need-loop-holds Inv-loop μ-loop
 loop-holds c = (omega arith, refl)
 
-shared-slice-read-if1 : tie.Need-shared-slice-read-if1 Inv-loop μ-loop
-shared-slice-read-if1 c = search needs
-
 returns : tie.Need-returns Inv-loop μ-loop
 returns c = let z = stops (c .before .before .before .before .args .text .now) (c .before .before .before .loop .e) (omega arith) (eq-eqb _ _ (c .if1 .taken)) in (omega arith, omega (arith, c .before .before .before .loop .inv .1))
-
-add-e : tie.Need-add-e Inv-loop μ-loop
-add-e c = search needs
-
-loop-less : tie.Need-loop-less Inv-loop μ-loop
-loop-less c = search needs
 
 loop-again : tie.Need-loop-again Inv-loop μ-loop
 loop-again c = let z = goes-on (c .before .before .before .before .args .text .now) (c .before .before .before .loop .e) (omega arith) (ne-eqb _ _ (c .if1 .left)) in (omega arith, omega (arith, c .before .before .before .loop .inv .1))
@@ -43,9 +34,9 @@ line-end-spec =
     Inv-loop
     μ-loop
     loop-holds
-    shared-slice-read-if1
+    (λ c. search needs)
     returns
-    add-e
-    loop-less
+    (λ c. search needs)
+    (λ c. search needs)
     loop-again
     returns-2)

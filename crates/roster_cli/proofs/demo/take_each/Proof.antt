@@ -9,25 +9,7 @@ Inv-loop board₀ k₀ board k = Unit {0}
 abbrev μ-loop : tie.MeasureT-loop
 μ-loop board₀ k₀ board k = 11 - k
 
-loop-holds : tie.Need-loop-holds Inv-loop μ-loop
-loop-holds c = search needs
-
-take-requires : tie.Need-take-requires Inv-loop μ-loop
-take-requires c κs = search needs
-
-add-k : tie.Need-add-k Inv-loop μ-loop
-add-k c = search needs
-
-loop-less : tie.Need-loop-less Inv-loop μ-loop
-loop-less c = search needs
-
-loop-again : tie.Need-loop-again Inv-loop μ-loop
-loop-again c = search needs
-
-returns : tie.Need-returns Inv-loop μ-loop
-returns c = search needs
-
 pub take-each-spec : {M : Type 1} → statement M
 take-each-spec =
     tie.close
-    (tie.spec Inv-loop μ-loop loop-holds take-requires add-k loop-less loop-again returns)
+    (tie.spec Inv-loop μ-loop (λ c. search needs) (λ c κs. search needs) (λ c. search needs) (λ c. search needs) (λ c. search needs) (λ c. search needs))
