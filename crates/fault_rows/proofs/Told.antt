@@ -1,5 +1,4 @@
 -- The walk over the clauses tells something exactly where the seat check fails.
-use Prim.Native.Nat.{ℕ, _<_}
 use mathlib.Core.Path.{_≡_}
 use mathlib.Core.Bool.{true}
 use native.Mathlib.Omega.{arith}

@@ -77,7 +77,7 @@ pub fn rows_inside(clause: Clause, board: &[u64], i: usize) -> usize
     }
 }
 
-// No clause is asked for more rows outside than there are rotations.
+// Where the walk inside begins; no clause is asked for more rows outside than there may be rotations.
 pub fn first_of(clause: Clause, i: usize) -> usize
     ensures { λ r. ⌜ (i < mostRotations → r ≡ firstOf clause i) ⌝ }
 {

@@ -13,7 +13,7 @@ placeText (Observing s e) = named "watching shard " (s .0) ++ named ", stamp " (
 placeText Short = bytes "short of stake"
 placeText (Other m) = named "other, mark " m
 
--- when the wait is over; no board that is well-formed passes 2 ^ 64
+-- when the wait is over; on a well-formed board the sum is far below 2 ^ 64
 abbrev pub deadline : ℕ → ℕ → ℕ
 deadline stamp wait = (stamp + wait) % 2 ^ 64
 
