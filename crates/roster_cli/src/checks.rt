@@ -1,5 +1,6 @@
 // `check`: the seat check, and each row that breaks a clause of it.
 use crate::args;
+use crate::facts;
 use crate::files;
 use crate::files::WORDS;
 use crate::say::WIDTH;
@@ -31,14 +32,21 @@ fn target(board: &[u64; WORDS], i: usize) -> ShardId {
     fields::target_at(board, i)
 }
 
+fn tell_place(board: &[u64; WORDS], id: ValidatorId) {
+    if !facts::has_record(board, id) {
+        return text(b"    it has no record\n");
+    }
+    let mut line = [0u8; WIDTH];
+    let a = put_text(&mut line, 0, b"    it is ");
+    let b = phrases::put_place(&mut line, a, rows::place_of(board, id));
+    end(&line, b);
+}
+
 fn tell_machine(fault: MachineFault, board: &[u64; WORDS], id: ValidatorId, shard: ShardId) {
     let mut line = [0u8; WIDTH];
     let a = fault_lines::put_machine_fault(&mut line, 0, fault, id, shard);
     end(&line, a);
-    let mut more = [0u8; WIDTH];
-    let b = put_text(&mut more, 0, b"    it is ");
-    let c = phrases::put_place(&mut more, b, rows::place_of(board, id));
-    end(&more, c);
+    tell_place(board, id);
 }
 
 fn tell_member(board: &[u64; WORDS], j: usize, k: usize) {

@@ -1,9 +1,11 @@
 // What a board's tables tell, as rows of words and plain numbers.
 use crate::files::WORDS;
+use board::layout::MOST_MACHINES;
 use board::layout::MOST_RESHAPES;
 use drains::Whose;
 use templates::number_at;
 use types::ShardId;
+use types::ValidatorId;
 
 pub(crate) fn table(board: &[u64; WORDS], which: u64, j: usize) -> &[u64] {
     sections::table(board, which, j)
@@ -59,4 +61,8 @@ pub(crate) fn ready_keepers(board: &[u64; WORDS], i: usize) -> u64 {
         return 0;
     }
     drains::ready_seats(board, i, Whose::All) as u64
+}
+
+pub(crate) fn has_record(board: &[u64; WORDS], id: ValidatorId) -> bool {
+    rows::machine_row(board, id) < MOST_MACHINES
 }

@@ -1,5 +1,7 @@
 // The lines of a roster's tables: the rows are looked up, laid and written.
+use crate::facts;
 use crate::files::WORDS;
+use crate::say;
 use crate::say::WIDTH;
 use crate::say::end;
 use board::committees;
@@ -32,6 +34,14 @@ pub const BOUNDARIES: u64 = 3;
 
 pub const NOTHING_MORE: u64 = 4;
 
+fn member_without(id: u64) {
+    say::row(
+        b"######################  not here: it has no record",
+        0,
+        &[id],
+    );
+}
+
 fn member(board: &[u64; WORDS], j: usize, k: usize) {
     if MOST_COMMITTEES <= j {
         return;
@@ -40,6 +50,9 @@ fn member(board: &[u64; WORDS], j: usize, k: usize) {
         return;
     }
     let id = committees::member_at(board, j, k);
+    if !facts::has_record(board, id) {
+        return member_without(id.0);
+    }
     let shard = committees::shard_at(board, j);
     let place = rows::place_of(board, id);
     let mut line = [0u8; WIDTH];
