@@ -1,3 +1,4 @@
 pub mod Lays
 pub mod Numerals
 pub mod Shown
+pub mod Widths

@@ -1,0 +1,26 @@
+use borrow.Author.Needs.{needs}
+use Rattle.roster_cli.proofs.diffs.walk_seats.Statement.{statement}
+use Rattle.roster_cli.proofs.diffs.walk_seats.Tie as tie
+
+abbrev Inv-loop : tie.InvT-loop
+Inv-loop a i b j at₀ left₀ at left = Unit {0}
+
+abbrev μ-loop : tie.MeasureT-loop
+μ-loop a i b j at₀ left₀ at left = left
+
+pub walk-seats-spec : {M : Type 1} → statement M
+walk-seats-spec =
+    tie.close
+    (tie.spec
+    Inv-loop
+    μ-loop
+    (λ c κs. search needs)
+    (λ c. search needs)
+    (λ c κs. search needs)
+    (λ c. search needs)
+    (λ c κs. search needs)
+    (λ c κs. search needs)
+    (λ c. search needs)
+    (λ c. search needs)
+    (λ c. search needs)
+    (λ c. search needs))
