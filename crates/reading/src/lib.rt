@@ -12,6 +12,7 @@ use board::layout::RESHAPE_WIDTH;
 use board::layout::SETTINGS_END;
 use bytes_words::get_words;
 use row_tests::RowKind;
+use row_tests::machine_ok;
 use row_tests::row_ok;
 use types::Answer;
 use unpacking::unpack_board;
@@ -31,20 +32,15 @@ ghost use lib.ListN.{length, getD, drop};
 ghost use Rattle.word_tests.specs.Tests.{at, idsOk, rises};
 ghost use Rattle.rules.specs.Board.{mostMachines, mostMembers};
 ghost use Rattle.rules.specs.WellFormed.{isShard};
-ghost use Rattle.board.specs.Layout.{machineWidth, committeeWidth, reshapeWidth};
-ghost use Rattle.row_tests.specs.Rows.{caseOk, machineOk, inPairs, widthOf};
+ghost use Rattle.board.specs.Layout.{committeeWidth, reshapeWidth};
+ghost use Rattle.row_tests.specs.Rows.{inPairs, widthOf};
 ghost use Rattle.snapshot.specs.ReadAs.{ReadAs};
 ghost use Rattle.unpacking.specs.AsWords.{AsWords};
 ghost use Rattle.reading.specs.Told.{TellsSnapshot};
 ghost use Rattle.reading.specs.Stream.{TellsRow, TellsSection, TellsHead};
 
-// ---- The ranges of rules/specs/Board.antt
-
-const LAST_STAMP: u64 = 8589934591;
-
+// As in rules/specs/Board.antt.
 const LAST_SHARD: u64 = 65535;
-
-const LAST_MARK: u64 = 255;
 
 // ---- Rows
 
@@ -157,39 +153,6 @@ pub fn row_end(k: RowKind, last: bool, bytes: &[u8], at: usize, out: &mut [u64])
 
 // ---- Machines: by far the most rows, tested as they are read
 
-// A place's four words: of this code, its mark from low to high, its ready and its stamp at most these.
-fn case_ok(
-    code: u64,
-    mark: u64,
-    ready: u64,
-    stamp: u64,
-    k: u64,
-    low: u64,
-    high: u64,
-    r: u64,
-    s: u64,
-) -> bool
-    ensures { λ o. ⌜ o ≡ caseOk code mark ready stamp k low high r s ⌝ }
-{
-    (code == k) & inside(low, high, mark) & (ready <= r) & (stamp <= s)
-}
-
-// Pooled, seated, observing, short or other: all five are asked, which leaves no branch.
-fn place_ok(t: &[u64]) -> bool
-    requires { ⌜ length (now t) ≡ machineWidth ⌝ }
-    ensures { λ r. ⌜ r ≡ machineOk (now (t .entry)) ⌝ }
-{
-    let c = t[1];
-    let m = t[2];
-    let r = t[3];
-    let s = t[4];
-    case_ok(c, m, r, s, 0, 0, 0, 0, 0)
-        | case_ok(c, m, r, s, 1, 1, LAST_SHARD, 1, LAST_STAMP)
-        | case_ok(c, m, r, s, 2, 1, LAST_SHARD, 0, LAST_STAMP)
-        | case_ok(c, m, r, s, 3, 0, 0, 0, 0)
-        | case_ok(c, m, r, s, 4, 1, LAST_MARK, 0, 0)
-}
-
 // As `row_end`, of a machine.
 fn machine_end(last: bool, bytes: &[u8], at: usize) -> usize
     requires { ⌜ length (now bytes) % 8 ≡ 0 ⌝ }
@@ -200,7 +163,7 @@ fn machine_end(last: bool, bytes: &[u8], at: usize) -> usize
     if e == 0 {
         return 0;
     }
-    if !place_ok(&t) {
+    if !machine_ok(&t) {
         return 0;
     }
     if last {

@@ -14,10 +14,10 @@ returns : tie.Need-returns
 returns c = λ ws h. row-missing Machines _ ws _ _ _ (c .before .before .unpack-machine .ensures ws h) (c .if1 .taken)
 
 returns-2 : tie.Need-returns-2
-returns-2 c = λ ws h. row-bad Machines _ ws _ _ _ (c .before .before .before .before .before .unpack-machine .ensures ws h) (sym (c .before .place-ok .ensures) ∙ not-true _ (c .if2 .taken))
+returns-2 c = λ ws h. row-bad Machines _ ws _ _ _ (c .before .before .before .before .before .unpack-machine .ensures ws h) (sym (c .before .machine-ok .ensures) ∙ not-true _ (c .if2 .taken))
 
 returns-3 : tie.Need-returns-3
-returns-3 c = λ ws h. row-told Machines _ ws _ _ _ (c .before .before .before .before .before .before .unpack-machine .ensures ws h) (omega arith) (part-words ws _ _ (c .before .before .before .before .before .before .before .before .before .args .at) (h .words) (c .before .before .before .before .before .before .unpack-machine .ensures ws h .read (omega arith))) (search needs) (sym (c .before .before .place-ok .ensures) ∙ not-false _ (c .before .if2 .left)) (inl (c .if3 .taken))
+returns-3 c = λ ws h. row-told Machines _ ws _ _ _ (c .before .before .before .before .before .before .unpack-machine .ensures ws h) (omega arith) (part-words ws _ _ (c .before .before .before .before .before .before .before .before .before .args .at) (h .words) (c .before .before .before .before .before .before .unpack-machine .ensures ws h .read (omega arith))) (search needs) (sym (c .before .before .machine-ok .ensures) ∙ not-false _ (c .before .if2 .left)) (inl (c .if3 .taken))
 
 rises-to-requires : tie.Need-rises-to-requires
 rises-to-requires c κs = let g = c .before .before .before .before .before .before .before .before .before .before .args .bytes .now in
@@ -28,7 +28,7 @@ returns-4 : tie.Need-returns-4
 returns-4 c = λ ws h. row-falls Machines _ ws _ _ _ (c .before .before .before .before .before .before .before .before .before .unpack-machine .ensures ws h) (c .before .before .before .if3 .left) (sym (c .before .rises-to .ensures ws h) ∙ not-true _ (c .if4 .taken))
 
 returns-5 : tie.Need-returns-5
-returns-5 c = λ ws h. row-told Machines _ ws _ _ _ (c .before .before .before .before .before .before .before .before .before .unpack-machine .ensures ws h) (omega arith) (part-words ws _ _ (c .before .before .before .before .before .before .before .before .before .before .before .before .args .at) (h .words) (c .before .before .before .before .before .before .before .before .before .unpack-machine .ensures ws h .read (omega arith))) (search needs) (sym (c .before .before .before .before .before .place-ok .ensures) ∙ not-false _ (c .before .before .before .before .if2 .left)) (inr (sym (c .before .rises-to .ensures ws h) ∙ not-false _ (c .if4 .left)))
+returns-5 c = λ ws h. row-told Machines _ ws _ _ _ (c .before .before .before .before .before .before .before .before .before .unpack-machine .ensures ws h) (omega arith) (part-words ws _ _ (c .before .before .before .before .before .before .before .before .before .before .before .before .args .at) (h .words) (c .before .before .before .before .before .before .before .before .before .unpack-machine .ensures ws h .read (omega arith))) (search needs) (sym (c .before .before .before .before .before .machine-ok .ensures) ∙ not-false _ (c .before .before .before .before .if2 .left)) (inr (sym (c .before .rises-to .ensures ws h) ∙ not-false _ (c .if4 .left)))
 
 pub machine-end-spec : {M : Type 1} → statement M
 machine-end-spec =
