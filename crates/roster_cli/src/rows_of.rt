@@ -28,12 +28,6 @@ pub const INSIDE_MEMBERS: u64 = 0;
 
 pub const INSIDE_SEATS: u64 = 1;
 
-pub const ROTATIONS: u64 = 2;
-
-pub const BOUNDARIES: u64 = 3;
-
-pub const NOTHING_MORE: u64 = 4;
-
 fn member_without(id: u64) {
     say::row(
         b"######################  not here: it has no record",
@@ -154,16 +148,13 @@ pub(crate) fn put_reshape_state(
 }
 
 fn row(what: u64, board: &[u64; WORDS], j: usize, i: usize) {
-    match what {
-        0 => member(board, j, i),
-        1 => seat(b"        ", board, j, i),
-        2 => rotation(board, i),
-        3 => boundary(board, i),
-        _ => {}
+    if what == INSIDE_MEMBERS {
+        return member(board, j, i);
     }
+    seat(b"        ", board, j, i);
 }
 
-// So many rows, inside row j where they stand in one.
+// So many rows inside row j.
 pub(crate) fn each(what: u64, board: &[u64; WORDS], j: usize, n: usize) {
     let mut i: usize = 0;
     while i < n {
