@@ -1,3 +1,2 @@
 pub mod Held
-mod Rests
 mod Rooms

@@ -4,7 +4,7 @@ use native.Mathlib.Omega.{arith}
 use borrow.Author.Needs.{needs}
 use Rattle.phrases.specs.Texts.{bytes}
 use Rattle.answers.specs.Answers.{answers, answerText}
-use Rattle.answers.proofs.Rests.{NoneOf, rest}
+use Rattle.lines.proofs.Rests.{NoneOf, rest}
 use Rattle.answers.proofs.put_first_answers.Statement.{statement}
 use Rattle.answers.proofs.put_first_answers.Tie as tie
 

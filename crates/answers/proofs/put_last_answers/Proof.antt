@@ -2,7 +2,7 @@ use lib.ListN.{List·getD-eq-default}
 use borrow.Author.Needs.{needs}
 use Rattle.phrases.specs.Texts.{bytes}
 use Rattle.answers.specs.Answers.{answers, answerText}
-use Rattle.answers.proofs.Rests.{NoneOf, rest}
+use Rattle.lines.proofs.Rests.{NoneOf, rest}
 use Rattle.answers.proofs.put_last_answers.Statement.{statement}
 use Rattle.answers.proofs.put_last_answers.Tie as tie
 

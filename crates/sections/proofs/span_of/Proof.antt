@@ -1,4 +1,4 @@
-use Rattle.sections.proofs.Rests.{NoneOf, rest}
+use Rattle.lines.proofs.Rests.{NoneOf, rest}
 use mathlib.Core.Path.{_≡_, sym}
 use native.Mathlib.Omega.{arith}
 use lib.ListN.{List·getD-eq-default}
@@ -49,7 +49,7 @@ returns-10 c = let e : c .before .args .which ≡ 9 = omega arith in (rw e, omeg
 
 returns-11 : tie.Need-returns-11
 unfolding spanOf spans NoneOf
-returns-11 c = (sym (List·getD-eq-default (spans (c .before .args .j)) (span 0 0) (rest 10 _ (c .match .rest))), omega arith)
+returns-11 c = (sym (List·getD-eq-default (spans (c .before .args .j)) (span 0 0) (rest 0 10 _ (omega arith) (c .match .rest))), omega arith)
 
 pub span-of-spec : {M : Type 1} → statement M
 span-of-spec =
