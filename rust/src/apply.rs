@@ -58,7 +58,7 @@ pub struct Applied {
 }
 
 impl<W: AsRef<[u64]> + AsMut<[u64]>> Board<W> {
-    /// [`Board::read`], the step and [`Board::write`] in one call, in about a third of their time: it asks a board's
+    /// [`Board::read`], the step and [`Board::write`] in one call, in less than half of their time: it asks a board's
     /// rules once. What stood in the board before doesn't matter, and words and bytes past those written stay.
     ///
     /// # Errors
