@@ -1,11 +1,12 @@
--- The digits of a word: one more at the end, and the value from the end.
-use Prim.Native.Nat.{ℕ, zero, suc, _+_, _-_, _*_, _/_, _%_, _^_, _≤_, _<_}
+-- The digits of a word: one more at the end, and the value of bytes in two parts.
+use Prim.Native.Nat.{ℕ, zero, suc, _+_, _*_, _/_, _%_, _^_, _≤_, _<_}
 use mathlib.Core.Path.{_≡_, refl, ap, sym, _∙_}
 use mathlib.Core.List.{List, [], _∷_, _++_, append-assoc}
 use native.Mathlib.Omega.{arith}
+use native.Mathlib.Nat.{mul-assoc, pow-succ'}
 use native.Mathlib.Numerals.{add-one}
-use lib.ListN.{length, getD, set, take, drop, length-append, length-drop, take-append-drop, drop-of-length-le}
-use lib.Seq.{drop-cons, length-take-le, set-at, getD-take, getD-drop}
+use lib.ListN.{length, getD, set, take, drop, length-append, length-drop, take-append-drop}
+use lib.Seq.{drop-cons, drop-drop, length-take-le, set-at, take-add}
 use Rattle.rules.specs.Snapshot.{digits, valueOfBytes}
 
 pub digits-length : (k n : ℕ) → length (digits k n) ≡ k
@@ -60,31 +61,23 @@ part-below (suc n) [] b i = omega arith
 part-below (suc n) (x ∷ l) b zero = b 0
 part-below (suc n) (x ∷ l) b (suc i) = part-below n l (λ j. b (suc j)) i
 
--- the value of a word's bytes from k on, where they stand at a place
-abbrev pub ending : List ℕ → ℕ → ℕ → ℕ
-ending bytes at k = valueOfBytes (drop k (take 8 (drop at bytes)))
+-- the value of n bytes that stand at a place
+abbrev pub valueAt : List ℕ → ℕ → ℕ → ℕ
+valueAt bytes at n = valueOfBytes (take n (drop at bytes))
 
-pub ending-none : (bytes : List ℕ) (at : ℕ) → at + 8 ≤ length bytes → 0 ≡ ending bytes at 8
+pub value-one : (bytes : List ℕ) (at : ℕ) → at < length bytes → getD bytes at 0 ≡ valueAt bytes at 1
 unfolding valueOfBytes
-ending-none bytes at h =
-    let l : length (take 8 (drop at bytes)) ≡ 8 = length-take-le 8 (drop at bytes) (omega (arith, length-drop at bytes)) in
-    let g : length (take 8 (drop at bytes)) ≤ 8 = omega arith in
-    rw drop-of-length-le
+value-one bytes at h = rw (drop-cons bytes at 0 h) (omega arith)
 
-pub ending-small : (bytes : List ℕ) (at k v : ℕ) → v ≡ ending bytes at k → 0 < k → at + 8 ≤ length bytes → ((i : ℕ) → getD bytes i 0 < 256) → v < 256 ^ 7
-ending-small bytes at k v e z h b =
-    let l : length (take 8 (drop at bytes)) ≡ 8 = length-take-le 8 (drop at bytes) (omega (arith, length-drop at bytes)) in
-    rw e
-    (value-below 7 (drop k (take 8 (drop at bytes))) (omega (arith, length-drop k (take 8 (drop at bytes))))
-    (λ i. rw (getD-drop k (take 8 (drop at bytes)) i 0) (part-below 8 (drop at bytes) (λ j. rw (getD-drop at bytes j 0) (b (at + j))) (k + i))))
-
-value-more : (l : List ℕ) (j : ℕ) → j < length l → valueOfBytes (drop j l) ≡ getD l j 0 + 256 * valueOfBytes (drop (suc j) l)
+value-append : (x y : List ℕ) → valueOfBytes (x ++ y) ≡ valueOfBytes x + 256 ^ length x * valueOfBytes y
 unfolding valueOfBytes
-value-more l j h = ap valueOfBytes (drop-cons l j 0 h)
+value-append [] y = omega arith
+value-append (d ∷ x) y =
+    let p : 256 ^ suc (length x) * valueOfBytes y ≡ 256 * (256 ^ length x * valueOfBytes y) = rw pow-succ' (mul-assoc 256 (256 ^ length x) (valueOfBytes y)) in
+    omega (arith, value-append x y)
 
-pub ending-more : (bytes : List ℕ) (at k v x : ℕ) → v ≡ ending bytes at k → 0 < k → k ≤ 8 → at + 8 ≤ length bytes → x ≡ getD bytes (at + (k - 1)) 0 → x + 256 * v ≡ ending bytes at (k - 1)
-ending-more bytes at k v x e z m h g =
-    let l : length (take 8 (drop at bytes)) ≡ 8 = length-take-le 8 (drop at bytes) (omega (arith, length-drop at bytes)) in
-    let n : suc (k - 1) ≡ k = omega arith in
-    let f : getD (take 8 (drop at bytes)) (k - 1) 0 ≡ x = getD-take 8 (drop at bytes) (k - 1) 0 (omega arith) ∙ getD-drop at bytes (k - 1) 0 ∙ sym g in
-    omega (arith, value-more (take 8 (drop at bytes)) (k - 1) (omega arith), ap (λ (i : ℕ). ending bytes at i) n)
+-- bytes in two parts, the first the least
+pub value-both : (bytes : List ℕ) (at k n : ℕ) → at + k ≤ length bytes → valueAt bytes at k + 256 ^ k * valueAt bytes (at + k) n ≡ valueAt bytes at (k + n)
+value-both bytes at k n h =
+    let l : length (take k (drop at bytes)) ≡ k = length-take-le k (drop at bytes) (omega (arith, length-drop at bytes)) in
+    sym (ap valueOfBytes (take-add k n (drop at bytes)) ∙ value-append (take k (drop at bytes)) (take n (drop k (drop at bytes))) ∙ rw (l, drop-drop k at bytes))

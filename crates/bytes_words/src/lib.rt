@@ -8,9 +8,37 @@ ghost use Rattle.rules.specs.Snapshot.{valueOfBytes, readWords};
 ghost use Rattle.bytes_words.specs.Laid.{laid};
 
 fn wide(x: u8) -> u64
-    ensures { λ r. ⌜ r ≡ x ⌝ }
+    ensures { λ r. ⌜ (r ≡ x) × (r < 256) ⌝ }
 {
     x as u64
+}
+
+// By doubling, without a loop: the compiler makes one load of a word.
+fn pair_at(bytes: &[u8], at: usize) -> u64
+    requires { ⌜ at + 2 ≤ length (now bytes) ⌝ }
+    ensures { λ r. ⌜ (r ≡ valueOfBytes (take 2 (drop at (now (bytes .entry))))) × (r < 65536) ⌝ }
+{
+    let low = wide(bytes[at]);
+    let high = wide(bytes[at + 1]);
+    low + 256 * high
+}
+
+fn quad_at(bytes: &[u8], at: usize) -> u64
+    requires { ⌜ at + 4 ≤ length (now bytes) ⌝ }
+    ensures { λ r. ⌜ (r ≡ valueOfBytes (take 4 (drop at (now (bytes .entry))))) × (r < 4294967296) ⌝ }
+{
+    let low = pair_at(bytes, at);
+    let high = pair_at(bytes, at + 2);
+    low + 65536 * high
+}
+
+pub fn word_at(bytes: &[u8], at: usize) -> u64
+    requires { ⌜ at + 8 ≤ length (now bytes) ⌝ }
+    ensures { λ r. ⌜ r ≡ valueOfBytes (take 8 (drop at (now (bytes .entry)))) ⌝ }
+{
+    let low = quad_at(bytes, at);
+    let high = quad_at(bytes, at + 4);
+    low + 4294967296 * high
 }
 
 // Where byte k of the word at `at` stands: the least first.
@@ -19,20 +47,6 @@ fn byte_place(at: usize, k: usize) -> usize
     ensures { λ r. ⌜ r ≡ at + k ⌝ }
 {
     at + k
-}
-
-// The last byte first, so that each turn is one step of the value.
-pub fn word_at(bytes: &[u8], at: usize) -> u64
-    requires { ⌜ at + 8 ≤ length (now bytes) ⌝ }
-    ensures { λ r. ⌜ r ≡ valueOfBytes (take 8 (drop at (now (bytes .entry)))) ⌝ }
-{
-    let mut v: u64 = 0;
-    let mut k: usize = 8;
-    while 0 < k {
-        k -= 1;
-        v = wide(bytes[byte_place(at, k)]) + 256 * v;
-    }
-    v
 }
 
 pub fn put_word(out: &mut [u8], at: usize, w: u64)
