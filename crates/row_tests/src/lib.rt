@@ -10,11 +10,12 @@ use board::layout::RIGHT_AT;
 use board::layout::SEAT_WIDTH;
 use board::layout::SEATS_AT;
 ghost use mathlib.Core.Path.{_≡_};
+ghost use mathlib.Core.List.{[], _∷_};
 ghost use mathlib.Core.Bool.{false};
 ghost use Prim.Native.Nat.{_≤_};
 ghost use lib.ListN.{length};
 ghost use Rattle.board.specs.Layout.{machineWidth, committeeWidth, boundaryWidth, rotationWidth, seatWidth, reshapeWidth};
-ghost use Rattle.word_tests.specs.Tests.{rises, firstOk};
+ghost use Rattle.word_tests.specs.Tests.{at, rises, firstOk};
 ghost use Rattle.row_tests.specs.Rows.{machineOk, committeeOk, optionOk, boundaryOk, rotationOk, seatOk, seatsOk, epochsOk, flagsOk, halvesOk, reshapeOk, rowOk, widthOf};
 
 // ---- The ranges of rules/specs/Board.antt
@@ -29,15 +30,21 @@ const LAST_MARK: u64 = 255;
 
 // ---- Rows
 
-// What a place's words may be, by its code (pooled, seated, observing, short, other): 0 where it does not use them.
-const MARK_LEAST: [u64; 5] = [0, 1, 1, 0, 1];
+// By a place's code. A match, which becomes a table of constants where they are given; an array would be laid anew at each call.
+fn by_code(code: u64, pooled: u64, seated: u64, observing: u64, short: u64, other: u64) -> u64
+    requires { ⌜ code ≤ 4 ⌝ }
+    ensures { λ r. ⌜ r ≡ at (pooled ∷ seated ∷ observing ∷ short ∷ other ∷ []) code ⌝ }
+{
+    match code {
+        0 => pooled,
+        1 => seated,
+        2 => observing,
+        3 => short,
+        _ => other,
+    }
+}
 
-const MARK_MOST: [u64; 5] = [0, LAST_SHARD, LAST_SHARD, 0, LAST_MARK];
-
-const READY_MOST: [u64; 5] = [0, 1, 0, 0, 0];
-
-const STAMP_MOST: [u64; 5] = [0, LAST_STAMP, LAST_STAMP, 0, 0];
-
+// The words that a place does not use are 0.
 pub fn machine_ok(t: &[u64]) -> bool
     requires { ⌜ length (now t) ≡ machineWidth ⌝ }
     ensures { λ r. ⌜ r ≡ machineOk (now (t .entry)) ⌝ }
@@ -46,10 +53,11 @@ pub fn machine_ok(t: &[u64]) -> bool
     if 4 < code {
         return false;
     }
-    let k = code as usize;
-    word_tests::inside(MARK_LEAST[k], MARK_MOST[k], t[2])
-        & (t[3] <= READY_MOST[k])
-        & (t[4] <= STAMP_MOST[k])
+    let mark_least = by_code(code, 0, 1, 1, 0, 1);
+    let mark_most = by_code(code, 0, LAST_SHARD, LAST_SHARD, 0, LAST_MARK);
+    let ready_most = by_code(code, 0, 1, 0, 0, 0);
+    let stamp_most = by_code(code, 0, LAST_STAMP, LAST_STAMP, 0, 0);
+    word_tests::inside(mark_least, mark_most, t[2]) & (t[3] <= ready_most) & (t[4] <= stamp_most)
 }
 
 // The shard, then the members.

@@ -11,7 +11,9 @@ returns c = place-other _ _ _ _ (c .if1 .taken)
 
 returns-2 : tie.Need-returns-2
 unfolding machineOk
-returns-2 c = rw (c .before .before .inside .ensures) (place-known (getD (c .before .before .before .before .before .before .before .args .t .now) 1 0) _ _ _ (search needs))
+returns-2 c = let a = c .before .before .before .before in
+    rw (c .before .before .inside .ensures, a .before .before .before .by-code .ensures, a .before .before .by-code2 .ensures, a .before .by-code3 .ensures, a .by-code4 .ensures)
+    (place-known (getD (a .before .before .before .before .before .before .before .args .t .now) 1 0) _ _ _ (search needs))
 
 pub machine-ok-spec : {M : Type 1} → statement M
 machine-ok-spec =
@@ -19,16 +21,12 @@ machine-ok-spec =
     (tie.spec
     (λ c. search needs)
     returns
-    (λ c. search needs)
-    (λ c. search needs)
-    (λ c. search needs)
-    (λ c. search needs)
-    (λ c. search needs)
+    (λ c κs. search needs)
+    (λ c κs. search needs)
+    (λ c κs. search needs)
     (λ c κs. search needs)
     (λ c. search needs)
-    (λ c. search needs)
-    (λ c. search needs)
-    (λ c. search needs)
+    (λ c κs. search needs)
     (λ c. search needs)
     (λ c. search needs)
     returns-2)
