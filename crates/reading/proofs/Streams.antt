@@ -3,11 +3,11 @@ use Prim.Native.Nat.{ℕ, suc, _+_, _-_, _≤_, _<_}
 use mathlib.Core.Path.{_≡_, refl, ap, sym, subst, _∙_}
 use mathlib.Core.List.{List, [], _∷_, _++_, append-assoc}
 use mathlib.Core.Logic.{_⊎_, inl, inr}
-use mathlib.Core.Bool.{Bool, true, false, false≢true}
+use mathlib.Core.Bool.{Bool, true, false, false≢true, or-false}
 use native.Mathlib.Omega.{arith}
 use native.Mathlib.Numerals.{add-one}
 use borrow.Author.Tests.{leb-true, le-leb, eqb-true, eq-eqb}
-use lib.Dec.{eqb}
+use lib.Dec.{eqb, ltb}
 use lib.ListN.{length, getD, drop, length-append, length-drop}
 use lib.Seq.{drop-cons, getD-drop, take-append-seam}
 use Rattle.rules.specs.Lists.{every}
@@ -15,7 +15,7 @@ use Rattle.rules.specs.WellFormed.{rising, goodList}
 use Rattle.rules.specs.Snapshot.{rowsWords, section}
 use Rattle.rules.proofs.Tests.{and-parts, and-joins, all-parts, all-joins, every-parts, every-join, every-none}
 use Rattle.row_tests.specs.declared.RowKind.{RowKind}
-use Rattle.word_tests.specs.Tests.{rises}
+use Rattle.word_tests.specs.Tests.{allPass, anyPass, rises}
 use Rattle.row_tests.specs.Rows.{rowOk, inPairs, widthOf}
 use Rattle.word_tests.proofs.Decides.{Words, words-cut}
 use Rattle.unpacking.specs.Unpacked.{RowOf, fullRow, snapRow, packedRow, RowRead}
@@ -24,13 +24,17 @@ use Rattle.unpacking.proofs.Rows.{packs-row, row-some}
 use Rattle.reading.specs.Stream.{goodOf, beforeOf, RowAt, TellsRow, SectionAt, TellsSection}
 use Rattle.reading.proofs.EachKind.{row-decides, row-roomy, row-says}
 
--- a row's order needs two words of the next
-pub rises-two : (pairs : Bool) (t ws : List ℕ) (at a b : ℕ) → a ≡ getD ws at 0 → b ≡ getD ws (at + 1) 0 → rises pairs t (a ∷ b ∷ []) ≡ rises pairs t (drop at ws)
-rises-two pairs t ws at a b p q =
-    let z : at ≡ at + 0 = omega arith in
-    let p' : a ≡ getD (drop at ws) 0 0 = p ∙ ap (λ (n : ℕ). getD ws n 0) z ∙ sym (getD-drop at ws 0 0) in
-    let q' : b ≡ getD (drop at ws) 1 0 = q ∙ sym (getD-drop at ws 1 0) in
-    rw (p', q')
+-- a row's order needs two words of the next, or the first alone
+module _ (t ws : List ℕ) (at a : ℕ) (p : a ≡ getD ws at 0) where
+  first-there : a ≡ getD (drop at ws) 0 0
+  first-there = let z : at ≡ at + 0 = omega arith in p ∙ ap (λ (n : ℕ). getD ws n 0) z ∙ sym (getD-drop at ws 0 0)
+
+  pub rises-two : (pairs : Bool) (b : ℕ) → b ≡ getD ws (at + 1) 0 → rises pairs t (a ∷ b ∷ []) ≡ rises pairs t (drop at ws)
+  rises-two pairs b q = let q' : b ≡ getD (drop at ws) 1 0 = q ∙ sym (getD-drop at ws 1 0) in rw (first-there, q')
+
+  pub rises-one : ltb (getD t 0 0) a ≡ rises false t (drop at ws)
+  unfolding anyPass allPass
+  rises-one = rw first-there (sym (or-false _))
 
 -- ---- a row
 

@@ -26,7 +26,7 @@ use word_tests::inside;
 use word_tests::rises;
 ghost use mathlib.Core.Path.{_≡_};
 ghost use mathlib.Core.List.{List};
-ghost use mathlib.Core.Bool.{_&&_};
+ghost use mathlib.Core.Bool.{false, _&&_};
 ghost use Prim.Native.Nat.{ℕ, _+_, _/_, _%_, _≤_};
 ghost use lib.ListN.{length, getD, drop};
 ghost use Rattle.word_tests.specs.Tests.{at, idsOk, rises};
@@ -64,6 +64,14 @@ fn rises_to(pairs: bool, t: &[u64], bytes: &[u8], at: usize) -> bool
 {
     let next = [word(bytes, at), word(bytes, at + 1)];
     rises(pairs, t, &next)
+}
+
+// As `rises_to`, of rows that rise by their first word: no other is read.
+fn first_rises_to(t: &[u64], bytes: &[u8], at: usize) -> bool
+    requires { ⌜ 1 ≤ length (now t) ⌝ }
+    ensures { λ r. ⌜ ((ws : List ℕ) → AsWords (now (bytes .entry)) ws → r ≡ rises false (now (t .entry)) (drop at ws)) ⌝ }
+{
+    t[0] < word(bytes, at)
 }
 
 // As `row_end`, by the row in full width.
@@ -109,7 +117,7 @@ fn members_end(last: bool, n: usize, bytes: &[u8], at: usize, row: &mut [u64]) -
     if last {
         return e;
     }
-    if !rises_to(false, row, bytes, e) {
+    if !first_rises_to(row, bytes, e) {
         return 0;
     }
     e
@@ -169,7 +177,7 @@ fn machine_end(last: bool, bytes: &[u8], at: usize) -> usize
     if last {
         return e;
     }
-    if !rises_to(false, &t, bytes, e) {
+    if !first_rises_to(&t, bytes, e) {
         return 0;
     }
     e
