@@ -126,8 +126,8 @@ fn take_seated(
     requires { ⌜ (length (now board) ≡ boardSize) × (length (now ready) ≡ mostMembers) × (length (now waiting) ≡ mostMembers) × (counts .ready + counts .waiting < mostMembers) ⌝ }
     ensures { λ r. ⌜ (r .ready + r .waiting ≤ counts .ready + counts .waiting + 1) × (length (now (ready .exit)) ≡ mostMembers) × (length (now (waiting .exit)) ≡ mostMembers)
         × ((b : Board) → Holds (now (board .entry)) b → wellFormed b ≡ true →
-            (take (r .ready) (now (ready .exit)) ≡ take (counts .ready) (now (ready .entry)) ++ taken Ready (shard .0) b (id .0))
-            × (take (r .waiting) (now (waiting .exit)) ≡ take (counts .waiting) (now (waiting .entry)) ++ taken Waiting (shard .0) b (id .0))) ⌝ }
+        (take (r .ready) (now (ready .exit)) ≡ take (counts .ready) (now (ready .entry)) ++ taken Ready (shard .0) b (id .0))
+        × (take (r .waiting) (now (waiting .exit)) ≡ take (counts .waiting) (now (waiting .entry)) ++ taken Waiting (shard .0) b (id .0))) ⌝ }
 {
     let k = counts.ready;
     let m = counts.waiting;
@@ -137,10 +137,16 @@ fn take_seated(
     }
     if p.is_ready() {
         ready[k] = id.0;
-        return Counts { ready: k + 1, waiting: m };
+        return Counts {
+            ready: k + 1,
+            waiting: m,
+        };
     }
     waiting[m] = id.0;
-    Counts { ready: k, waiting: m + 1 }
+    Counts {
+        ready: k,
+        waiting: m + 1,
+    }
 }
 
 // Of the committee at row j.
@@ -154,11 +160,14 @@ fn gather_seated_at(
     requires { ⌜ (length (now board) ≡ boardSize) × (j < mostCommittees) × (length (now ready) ≡ mostMembers) × (length (now waiting) ≡ mostMembers) ⌝ }
     ensures { λ r. ⌜ (r .ready + r .waiting ≤ mostMembers) × (length (now (ready .exit)) ≡ mostMembers) × (length (now (waiting .exit)) ≡ mostMembers)
         × ((b : Board) → Holds (now (board .entry)) b → wellFormed b ≡ true → j < length (b .committees) →
-            (take (r .ready) (now (ready .exit)) ≡ keep (isGathered Ready (shard .0) b) (getD (b .committees) j noCommittee .val))
-            × (take (r .waiting) (now (waiting .exit)) ≡ keep (isGathered Waiting (shard .0) b) (getD (b .committees) j noCommittee .val))) ⌝ }
+        (take (r .ready) (now (ready .exit)) ≡ keep (isGathered Ready (shard .0) b) (getD (b .committees) j noCommittee .val))
+        × (take (r .waiting) (now (waiting .exit)) ≡ keep (isGathered Waiting (shard .0) b) (getD (b .committees) j noCommittee .val))) ⌝ }
 {
     let n = steps::rows_within(committees::member_count(board, j), MOST_MEMBERS);
-    let mut counts = Counts { ready: 0, waiting: 0 };
+    let mut counts = Counts {
+        ready: 0,
+        waiting: 0,
+    };
     let mut i: usize = 0;
     while i < n {
         counts = take_seated(
@@ -184,12 +193,15 @@ pub fn gather_seated(
     requires { ⌜ (length (now board) ≡ boardSize) × (length (now ready) ≡ mostMembers) × (length (now waiting) ≡ mostMembers) ⌝ }
     ensures { λ r. ⌜ (r .ready + r .waiting ≤ mostMembers) × (length (now (ready .exit)) ≡ mostMembers) × (length (now (waiting .exit)) ≡ mostMembers)
         × ((b : Board) → Holds (now (board .entry)) b → wellFormed b ≡ true →
-            (take (r .ready) (now (ready .exit)) ≡ gathered Ready (shard .0) b)
-            × (take (r .waiting) (now (waiting .exit)) ≡ gathered Waiting (shard .0) b)) ⌝ }
+        (take (r .ready) (now (ready .exit)) ≡ gathered Ready (shard .0) b)
+        × (take (r .waiting) (now (waiting .exit)) ≡ gathered Waiting (shard .0) b)) ⌝ }
 {
     let j = rows::committee_row(board, shard);
     if MOST_COMMITTEES <= j {
-        return Counts { ready: 0, waiting: 0 };
+        return Counts {
+            ready: 0,
+            waiting: 0,
+        };
     }
     gather_seated_at(board, shard, j, ready, waiting)
 }

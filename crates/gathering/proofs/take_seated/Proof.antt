@@ -30,9 +30,10 @@ returns-2 c =
       p .2,
       λ b h ok.
           let s = c .before .before .before .is-seated-on .ensures ∙ c .before .before .before .before .place-of .ensures b h ok (isSeatedOn (a .shard .0)) refl in
-          let r = c .before .is-ready .ensures ∙ c .before .before .before .before .place-of .ensures b h ok isReady refl in
-          (added Ready _ b _ (a .ready .now) (a .counts .ready) (sym (c .if2 .taken) ∙ ready-one _ b _ _ s (c .before .before .if1 .left) _ r) l,
-           passed Waiting _ b _ (a .waiting .now) (a .counts .waiting) (ap not (sym (c .if2 .taken)) ∙ waiting-one _ b _ _ s (c .before .before .if1 .left) _ r)),
+          let r = c .before .is-ready .ensures ∙ c .before .before .before .before .place-of .ensures b h ok isReady refl in (
+            added Ready _ b _ (a .ready .now) (a .counts .ready) (sym (c .if2 .taken) ∙ ready-one _ b _ _ s (c .before .before .if1 .left) _ r) l,
+            passed Waiting _ b _ (a .waiting .now) (a .counts .waiting) (ap not (sym (c .if2 .taken)) ∙ waiting-one _ b _ _ s (c .before .before .if1 .left) _ r),
+          ),
     )
 
 returns-3 : tie.Need-returns-3
@@ -45,9 +46,10 @@ returns-3 c =
       length-set (a .waiting .now) (a .counts .waiting) (a .id .0) ∙ p .2,
       λ b h ok.
           let s = c .before .before .before .is-seated-on .ensures ∙ c .before .before .before .before .place-of .ensures b h ok (isSeatedOn (a .shard .0)) refl in
-          let r = c .before .is-ready .ensures ∙ c .before .before .before .before .place-of .ensures b h ok isReady refl in
-          (passed Ready _ b _ (a .ready .now) (a .counts .ready) (sym (c .if2 .left) ∙ ready-one _ b _ _ s (c .before .before .if1 .left) _ r),
-           added Waiting _ b _ (a .waiting .now) (a .counts .waiting) (ap not (sym (c .if2 .left)) ∙ waiting-one _ b _ _ s (c .before .before .if1 .left) _ r) l),
+          let r = c .before .is-ready .ensures ∙ c .before .before .before .before .place-of .ensures b h ok isReady refl in (
+            passed Ready _ b _ (a .ready .now) (a .counts .ready) (sym (c .if2 .left) ∙ ready-one _ b _ _ s (c .before .before .if1 .left) _ r),
+            added Waiting _ b _ (a .waiting .now) (a .counts .waiting) (ap not (sym (c .if2 .left)) ∙ waiting-one _ b _ _ s (c .before .before .if1 .left) _ r) l,
+          ),
     )
 
 pub take-seated-spec : {M : Type 1} → statement M
