@@ -2,9 +2,8 @@
 use Prim.Native.Nat.{ℕ, suc, _+_, _/_, _≤_, _<_}
 use mathlib.Core.Path.{_≡_, refl, ap, sym, _∙_}
 use mathlib.Core.List.{List, _++_}
-use mathlib.Core.Bool.{Bool, true, false}
+use mathlib.Core.Bool.{true}
 use native.Mathlib.Omega.{arith}
-use lib.Dec.{leb}
 use lib.ListN.{length, getD, take, drop, set, length-append, length-drop, length-set}
 use lib.Seq.{length-take-le, take-all, take-at, drop-at, take-append-le, take-suc, take-suc-set, take-take, getD-append-add}
 use borrow.Rule.Slice.PartMut.{putMid, take-put}
@@ -16,7 +15,7 @@ use Rattle.rules.specs.Board.{Board, sizeOf}
 use Rattle.rules.specs.WellFormed.{wellFormed}
 use Rattle.rules.specs.Draws.{Drawn, andThen, shuffle}
 use Rattle.rules.specs.Reshapes.{halfUp, seatedMembers, keepersOf, drawKeepers}
-use Rattle.rules.proofs.Tests.{all-parts, le-of, lt-of-no}
+use Rattle.rules.proofs.Tests.{all-parts}
 use Rattle.rules.proofs.KeptBoard.{limits}
 use Rattle.sampling.specs.declared.Reader.{Reader}
 use Rattle.gathering.specs.Gathered.{Ready, Waiting, gathered, Drew, Lacks, lacking, large}

@@ -1,6 +1,5 @@
 -- What the code tells of keepers that are drawn.
 use Prim.Native.Nat.{ℕ, _+_, _≤_}
-use mathlib.Core.Path.{_≡_}
 use mathlib.Core.List.{List, [], _++_}
 use lib.ListN.{length, take, drop}
 use Rattle.types.specs.Numbers.{Shard, Id}

@@ -2,7 +2,7 @@ use Prim.Native.Nat.{_<_}
 use mathlib.Core.Path.{refl, ap, sym, _∙_}
 use mathlib.Core.Bool.{not}
 use native.Mathlib.Omega.{arith}
-use lib.ListN.{length, length-set}
+use lib.ListN.{length}
 use Rattle.types.specs.Places.{isSeatedOn, isReady}
 use Rattle.gathering.specs.Gathered.{Ready, Waiting}
 use Rattle.gathering.proofs.Gathers.{none-elsewhere, ready-one, waiting-one, added, passed}
@@ -26,8 +26,8 @@ returns-2 c =
     let p = c .before .before .before .before .before .before .before .before .pre in
     let l : a .counts .ready < length (a .ready .now) = omega (arith, p .1, p .3) in (
       omega arith,
-      length-set (a .ready .now) (a .counts .ready) (a .id .0) ∙ p .1,
-      p .2,
+      search needs,
+      search needs,
       λ b h ok.
           let s = c .before .before .before .is-seated-on .ensures ∙ c .before .before .before .before .place-of .ensures b h ok (isSeatedOn (a .shard .0)) refl in
           let r = c .before .is-ready .ensures ∙ c .before .before .before .before .place-of .ensures b h ok isReady refl in (
@@ -42,8 +42,8 @@ returns-3 c =
     let p = c .before .before .before .before .before .before .before .before .pre in
     let l : a .counts .waiting < length (a .waiting .now) = omega (arith, p .2, p .3) in (
       omega arith,
-      p .1,
-      length-set (a .waiting .now) (a .counts .waiting) (a .id .0) ∙ p .2,
+      search needs,
+      search needs,
       λ b h ok.
           let s = c .before .before .before .is-seated-on .ensures ∙ c .before .before .before .before .place-of .ensures b h ok (isSeatedOn (a .shard .0)) refl in
           let r = c .before .is-ready .ensures ∙ c .before .before .before .before .place-of .ensures b h ok isReady refl in (

@@ -1,7 +1,6 @@
 use mathlib.Core.Path.{sym, _∙_}
 use native.Mathlib.Omega.{arith}
-use lib.ListN.{length}
-use lib.Seq.{length-take-le, take-all}
+use lib.Seq.{length-take-le}
 use Rattle.keepers.proofs.Drawing.{then-is, lacks-then, front-long, front-taken}
 use borrow.Author.Needs.{needs}
 use Rattle.keepers.proofs.draw_share.Statement.{statement}
@@ -16,7 +15,7 @@ fill-share-requires c κs =
     let p = c .before .before .before .before .before .before .before .before .before .before .before .before .pre in
     let d = rw (c .before .before .before .mixed .given .1) at (c .before .before .before .before .before .before .before .mix .ensures .1) in
     let l = front-long (a .m) (c .before .before .before .before .before .before .before .mix .last .0) (a .out .now) (p .1) (c .before .before .before .before .before .before .before .mix .ensures .0) in
-    (d .read, rw l (p .1), rw l (p .2))
+    (omega (arith, d .read), rw l (p .1), rw l (p .2))
 
 returns : tie.Need-returns
 returns c =

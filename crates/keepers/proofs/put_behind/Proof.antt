@@ -1,5 +1,4 @@
 use Prim.Native.Nat.{_+_, _-_, _≤_}
-use mathlib.Core.Path.{_≡_, refl, sym, _∙_}
 use native.Mathlib.Omega.{arith}
 use lib.ListN.{length, length-set}
 use Rattle.keepers.proofs.Drawing.{Behind, none-behind, one-behind, all-behind, share-behind}
