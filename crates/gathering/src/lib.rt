@@ -1,4 +1,4 @@
-// The members of a shard's committee that a step draws among, in a lent list.
+// The members of a shard's committee that a step draws among, in lent lists.
 use board::committees;
 use board::layout::MOST_COMMITTEES;
 use board::layout::MOST_MEMBERS;

@@ -15,7 +15,7 @@ use Rattle.keepers.specs.declared.Listed.the-variants as listed
 use Rattle.keepers.specs.declared.Keepers.{Keepers}
 use Rattle.keepers.specs.declared.Keepers.the-variants.{Drawn as Kept, Refused}
 
--- the keepers of both children; a child's ready members are gathered behind those of the other
+-- room for the left child's keepers, and behind them for every member of the right one
 abbrev pub keepersRoom : ℕ
 keepersRoom = mostSeats + mostMembers
 

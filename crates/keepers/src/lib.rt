@@ -91,7 +91,7 @@ fn draw_share(
     }
 }
 
-// The child's keepers, and its waiting members in a list of their own.
+// The child's keepers; its waiting members are gathered in a list of their own.
 fn keepers_of(
     board: &[u64],
     child: ShardId,
