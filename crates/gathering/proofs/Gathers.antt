@@ -17,7 +17,7 @@ use Rattle.rules.specs.Board.{Rotation, Board}
 use Rattle.rules.specs.WellFormed.{wellFormed}
 use Rattle.rules.specs.Draws.{shuffle}
 use Rattle.rules.specs.Moves.{says, isOn, entrantsOn}
-use Rattle.rules.proofs.Tests.{and-parts, or-left}
+use Rattle.rules.proofs.Tests.{and-parts, or-left, of-not, of-no}
 use Rattle.sampling.specs.Reads.{GivesShuffle, mixed}
 use Rattle.sampling.specs.declared.Reader.{Reader}
 use Rattle.sampling.specs.declared.Shuffled.{Shuffled}
@@ -29,21 +29,31 @@ use Rattle.shards.specs.declared.rotations.Rotation as code
 use Rattle.board.specs.Held.{noCommittee, noRotation}
 use Rattle.board.proofs.Keyed.{committees-rise}
 use Rattle.board.proofs.Moves.{members-at, members-none}
-use Rattle.gathering.specs.declared.Members.{Members}
-use Rattle.gathering.specs.declared.Members.the-variants.{Ready, Waiting, Staying}
-use Rattle.gathering.specs.Gathered.{isEntrant, isGathered, taken, gathered, Drew, Lacks, lacking, large}
+use Rattle.gathering.specs.Gathered.{Members, Ready, Waiting, Staying, isEntrant, isGathered, taken, gathered, Drew, Lacks, lacking, large}
 
 -- ---- a member's place
 
 module _ (s : Shard) (b : Board) (x : Id) (seated : Bool) (e : seated ≡ says (isSeatedOn s) b x) where
-  pub ready-one : (w : Members) → w ≡ Ready → (ready : Bool) → ready ≡ says isReady b x → (seated && ready) ≡ isGathered w s b x
-  ready-one w q ready r = and-is seated ready ∙ rw (e, r, q)
+  pub staying-one : (entering : Bool) → entering ≡ has x (entrantsOn s (b .rotations)) → (seated && not entering) ≡ isGathered Staying s b x
+  staying-one entering r = and-is seated (not entering) ∙ rw (e, r)
 
-  pub waiting-one : (w : Members) → w ≡ Waiting → (ready : Bool) → ready ≡ says isReady b x → (seated && not ready) ≡ isGathered w s b x
-  waiting-one w q ready r = and-is seated (not ready) ∙ rw (e, r, q)
+  pub none-elsewhere : not seated ≡ true → (w : Members) → false ≡ isGathered w s b x
+  unfolding _and_
+  none-elsewhere q w = go w (sym e ∙ of-not seated q)
+    where
+      go : (w : Members) → says (isSeatedOn s) b x ≡ false → false ≡ isGathered w s b x
+      go Ready p = rw p
+      go Waiting p = rw p
+      go Staying p = rw p
 
-  pub staying-one : (w : Members) → w ≡ Staying → (entering : Bool) → entering ≡ has x (entrantsOn s (b .rotations)) → (seated && not entering) ≡ isGathered w s b x
-  staying-one w q entering r = and-is seated (not entering) ∙ rw (e, r, q)
+  module _ (here : not seated ≡ false) (ready : Bool) (r : ready ≡ says isReady b x) where
+    pub ready-one : ready ≡ isGathered Ready s b x
+    unfolding _and_
+    ready-one = rw (← e, of-no seated here, ← r)
+
+    pub waiting-one : not ready ≡ isGathered Waiting s b x
+    unfolding _and_
+    waiting-one = rw (← e, of-no seated here, ← r)
 
 -- ---- entrants, as a loop looks for one
 
@@ -76,6 +86,10 @@ module _ (w : Members) (s : Shard) (b : Board) (x : Id) (out : List ℕ) (k : �
   pub passed : false ≡ isGathered w s b x → take k out ≡ take k out ++ taken w s b x
   passed q = rw (← q) (sym (append-nil (take k out)))
 
+-- those of the first i members; the rest are still to come
+pub record Filled (w : Members) (s : Shard) (b : Board) (l filled : List Id) (i : ℕ) : Type 0 where
+  pub whole : filled ++ keep (isGathered w s b) (drop i l) ≡ keep (isGathered w s b) l
+
 keep-next : (f : Id → Bool) (l : List Id) (i : ℕ) → i < length l → keep f (drop i l) ≡ cond (f (getD l i 0)) (getD l i 0 ∷ []) [] ++ keep f (drop (i + 1) l)
 unfolding keep
 keep-next f l i h = rw (add-one i) (ap (keep f) (drop-cons l i 0 h) ∙ go (f (getD l i 0)))
@@ -84,16 +98,18 @@ keep-next f l i h = rw (add-one i) (ap (keep f) (drop-cons l i 0 h) ∙ go (f (g
     go true = refl
     go false = refl
 
-pub keep-none : (f : Id → Bool) (l : List Id) (i : ℕ) → length l ≤ i → keep f (drop i l) ≡ []
-unfolding keep
-keep-none f l i h = ap (keep f) (drop-of-length-le l {i = i} h)
+module _ {w : Members} {s : Shard} {b : Board} {l filled : List Id} {i : ℕ} (q : Filled w s b l filled i) where
+  pub one-more : {x : Id} {next : List Id} → i < length l → x ≡ getD l i 0 → next ≡ filled ++ taken w s b x → Filled w s b l next (i + 1)
+  one-more h e p =
+      let rest = keep (isGathered w s b) (drop (i + 1) l) in
+      let here = p ∙ ap (λ y. filled ++ taken w s b y) e in
+      record {
+        whole = ap (λ v. v ++ rest) here ∙ append-assoc filled (taken w s b (getD l i 0)) rest ∙ ap (λ v. filled ++ v) (sym (keep-next (isGathered w s b) l i h)) ∙ q .whole;
+      }
 
-pub one-more : (w : Members) (s : Shard) (b : Board) (l : List Id) (i : ℕ) → i < length l → (x : Id) → x ≡ getD l i 0 → (filled next whole : List Id) → next ≡ filled ++ taken w s b x
-    → filled ++ keep (isGathered w s b) (drop i l) ≡ whole → next ++ keep (isGathered w s b) (drop (i + 1) l) ≡ whole
-one-more w s b l i h x e filled next whole p q =
-    let rest = keep (isGathered w s b) (drop (i + 1) l) in
-    let here : next ≡ filled ++ taken w s b (getD l i 0) = p ∙ rw e in
-    ap (λ v. v ++ rest) here ∙ append-assoc filled (taken w s b (getD l i 0)) rest ∙ ap (λ v. filled ++ v) (sym (keep-next (isGathered w s b) l i h)) ∙ q
+  pub all-kept : length l ≤ i → filled ≡ keep (isGathered w s b) l
+  unfolding keep
+  all-kept h = sym (append-nil filled) ∙ rw (drop-of-length-le l {i = i} h) at (q .whole)
 
 -- ---- sorted and shuffled
 

@@ -14,10 +14,14 @@ use Rattle.rules.specs.Board.{Rotation, Board}
 use Rattle.rules.specs.Draws.{Drawn, drew, missing, tooLarge}
 use Rattle.rules.specs.Moves.{says, membersOf, isOn, entrantsOn}
 use Rattle.sampling.specs.declared.Reader.{Reader}
-use Rattle.gathering.specs.declared.Members.{Members}
-use Rattle.gathering.specs.declared.Members.the-variants.{Ready, Waiting, Staying}
 use Rattle.gathering.specs.declared.Mixed as code
 use Rattle.gathering.specs.declared.Mixed.the-variants.{Done, Refused}
+
+-- which of the members that are seated on the shard; those who stay when its rotations are aborted are entrants of none
+pub data Members : Type 0 where
+  Ready : Members
+  Waiting : Members
+  Staying : Members
 
 -- the entrant of a rotation on the shard
 abbrev pub isEntrant : Shard → Id → Rotation → Bool

@@ -1,4 +1,4 @@
-// The members of a shard's committee that a step draws among, in a lent list.
+// The members of a shard's committee that a step draws among, in lent lists.
 use board::committees;
 use board::layout::MOST_COMMITTEES;
 use board::layout::MOST_MEMBERS;
@@ -20,13 +20,12 @@ ghost use Rattle.rules.specs.Draws.{shuffle};
 ghost use Rattle.rules.specs.Moves.{entrantsOn};
 ghost use Rattle.board.specs.Layout.{boardSize};
 ghost use Rattle.board.specs.Held.{Holds, noCommittee, noRotation};
-ghost use Rattle.gathering.specs.Gathered.{isEntrant, isGathered, taken, gathered, TellsMixed};
+ghost use Rattle.gathering.specs.Gathered.{Ready, Waiting, Staying, isEntrant, isGathered, taken, gathered, TellsMixed};
 
-// Which of the members that are seated on the shard; those who stay when its rotations are aborted are entrants of none.
-pub enum Members {
-    Ready,
-    Waiting,
-    Staying,
+// How many seated members are ready, and how many wait.
+pub struct Counts {
+    pub ready: usize,
+    pub waiting: usize,
 }
 
 // The reader moved on; or the answer that refuses a draw.
@@ -34,6 +33,8 @@ pub enum Mixed {
     Done(Reader),
     Refused(Answer),
 }
+
+// ---- Those who stay when the shard's rotations are aborted: entrants of none
 
 fn enters_at(board: &[u64], shard: ShardId, id: ValidatorId, i: usize) -> bool
     requires { ⌜ (length (now board) ≡ boardSize) × (i < mostRotations) ⌝ }
@@ -61,33 +62,21 @@ fn enters(board: &[u64], shard: ShardId, id: ValidatorId) -> bool
     false
 }
 
-fn is_gathered(board: &[u64], which: Members, shard: ShardId, id: ValidatorId) -> bool
+fn stays(board: &[u64], shard: ShardId, id: ValidatorId) -> bool
     requires { ⌜ length (now board) ≡ boardSize ⌝ }
-    ensures { λ r. ⌜ ((b : Board) → Holds (now (board .entry)) b → wellFormed b ≡ true → r ≡ isGathered which (shard .0) b (id .0)) ⌝ }
+    ensures { λ r. ⌜ ((b : Board) → Holds (now (board .entry)) b → wellFormed b ≡ true → r ≡ isGathered Staying (shard .0) b (id .0)) ⌝ }
 {
     let p = rows::place_of(board, id);
-    let seated = p.is_seated_on(shard);
-    match which {
-        Members::Ready => seated & p.is_ready(),
-        Members::Waiting => seated & !p.is_ready(),
-        Members::Staying => seated & !enters(board, shard, id),
-    }
+    p.is_seated_on(shard) & !enters(board, shard, id)
 }
 
-// The machine comes next, if it is wanted; how many there are then.
-fn take_up(
-    board: &[u64],
-    which: Members,
-    shard: ShardId,
-    id: ValidatorId,
-    out: &mut [u64],
-    k: usize,
-) -> usize
+// The machine comes next, if it stays; how many there are then.
+fn take_staying(board: &[u64], shard: ShardId, id: ValidatorId, out: &mut [u64], k: usize) -> usize
     requires { ⌜ (length (now board) ≡ boardSize) × (length (now out) ≡ mostMembers) × (k < mostMembers) ⌝ }
     ensures { λ r. ⌜ (r ≤ k + 1) × (length (now (out .exit)) ≡ mostMembers) × ((b : Board) → Holds (now (board .entry)) b → wellFormed b ≡ true →
-        take r (now (out .exit)) ≡ take k (now (out .entry)) ++ taken which (shard .0) b (id .0)) ⌝ }
+        take r (now (out .exit)) ≡ take k (now (out .entry)) ++ taken Staying (shard .0) b (id .0)) ⌝ }
 {
-    if is_gathered(board, which, shard, id) {
+    if stays(board, shard, id) {
         out[k] = id.0;
         return k + 1;
     }
@@ -95,40 +84,129 @@ fn take_up(
 }
 
 // Of the committee at row j.
-fn gather_at(board: &[u64], which: Members, shard: ShardId, j: usize, out: &mut [u64]) -> usize
+fn gather_staying_at(board: &[u64], shard: ShardId, j: usize, out: &mut [u64]) -> usize
     requires { ⌜ (length (now board) ≡ boardSize) × (j < mostCommittees) × (length (now out) ≡ mostMembers) ⌝ }
     ensures { λ r. ⌜ (r ≤ mostMembers) × (length (now (out .exit)) ≡ mostMembers) × ((b : Board) → Holds (now (board .entry)) b → wellFormed b ≡ true → j < length (b .committees) →
-        take r (now (out .exit)) ≡ keep (isGathered which (shard .0) b) (getD (b .committees) j noCommittee .val)) ⌝ }
+        take r (now (out .exit)) ≡ keep (isGathered Staying (shard .0) b) (getD (b .committees) j noCommittee .val)) ⌝ }
 {
     let n = steps::rows_within(committees::member_count(board, j), MOST_MEMBERS);
     let mut k: usize = 0;
     let mut i: usize = 0;
     while i < n {
-        k = take_up(
-            board,
-            which,
-            shard,
-            committees::member_at(board, j, i),
-            out,
-            k,
-        );
+        k = take_staying(board, shard, committees::member_at(board, j, i), out, k);
         i += 1;
     }
     k
 }
 
-// The wanted members in their order, into the first of 96 words; how many.
-pub fn gather(board: &[u64], which: Members, shard: ShardId, out: &mut [u64]) -> usize
+// Those who stay, in their order, into the first of 96 words; how many.
+pub fn gather_staying(board: &[u64], shard: ShardId, out: &mut [u64]) -> usize
     requires { ⌜ (length (now board) ≡ boardSize) × (length (now out) ≡ mostMembers) ⌝ }
     ensures { λ r. ⌜ (r ≤ mostMembers) × (length (now (out .exit)) ≡ mostMembers) × ((b : Board) → Holds (now (board .entry)) b → wellFormed b ≡ true →
-        take r (now (out .exit)) ≡ gathered which (shard .0) b) ⌝ }
+        take r (now (out .exit)) ≡ gathered Staying (shard .0) b) ⌝ }
 {
     let j = rows::committee_row(board, shard);
     if MOST_COMMITTEES <= j {
         return 0;
     }
-    gather_at(board, which, shard, j, out)
+    gather_staying_at(board, shard, j, out)
 }
+
+// ---- The ready and the waiting, in one pass
+
+// The machine comes next in the list of its kind, if it is seated; how many there are then.
+fn take_seated(
+    board: &[u64],
+    shard: ShardId,
+    id: ValidatorId,
+    ready: &mut [u64],
+    waiting: &mut [u64],
+    counts: Counts,
+) -> Counts
+    requires { ⌜ (length (now board) ≡ boardSize) × (length (now ready) ≡ mostMembers) × (length (now waiting) ≡ mostMembers) × (counts .ready + counts .waiting < mostMembers) ⌝ }
+    ensures { λ r. ⌜ (r .ready + r .waiting ≤ counts .ready + counts .waiting + 1) × (length (now (ready .exit)) ≡ mostMembers) × (length (now (waiting .exit)) ≡ mostMembers)
+        × ((b : Board) → Holds (now (board .entry)) b → wellFormed b ≡ true →
+        (take (r .ready) (now (ready .exit)) ≡ take (counts .ready) (now (ready .entry)) ++ taken Ready (shard .0) b (id .0))
+        × (take (r .waiting) (now (waiting .exit)) ≡ take (counts .waiting) (now (waiting .entry)) ++ taken Waiting (shard .0) b (id .0))) ⌝ }
+{
+    let k = counts.ready;
+    let m = counts.waiting;
+    let p = rows::place_of(board, id);
+    if !p.is_seated_on(shard) {
+        return counts;
+    }
+    if p.is_ready() {
+        ready[k] = id.0;
+        return Counts {
+            ready: k + 1,
+            waiting: m,
+        };
+    }
+    waiting[m] = id.0;
+    Counts {
+        ready: k,
+        waiting: m + 1,
+    }
+}
+
+// Of the committee at row j.
+fn gather_seated_at(
+    board: &[u64],
+    shard: ShardId,
+    j: usize,
+    ready: &mut [u64],
+    waiting: &mut [u64],
+) -> Counts
+    requires { ⌜ (length (now board) ≡ boardSize) × (j < mostCommittees) × (length (now ready) ≡ mostMembers) × (length (now waiting) ≡ mostMembers) ⌝ }
+    ensures { λ r. ⌜ (r .ready + r .waiting ≤ mostMembers) × (length (now (ready .exit)) ≡ mostMembers) × (length (now (waiting .exit)) ≡ mostMembers)
+        × ((b : Board) → Holds (now (board .entry)) b → wellFormed b ≡ true → j < length (b .committees) →
+        (take (r .ready) (now (ready .exit)) ≡ keep (isGathered Ready (shard .0) b) (getD (b .committees) j noCommittee .val))
+        × (take (r .waiting) (now (waiting .exit)) ≡ keep (isGathered Waiting (shard .0) b) (getD (b .committees) j noCommittee .val))) ⌝ }
+{
+    let n = steps::rows_within(committees::member_count(board, j), MOST_MEMBERS);
+    let mut counts = Counts {
+        ready: 0,
+        waiting: 0,
+    };
+    let mut i: usize = 0;
+    while i < n {
+        counts = take_seated(
+            board,
+            shard,
+            committees::member_at(board, j, i),
+            ready,
+            waiting,
+            counts,
+        );
+        i += 1;
+    }
+    counts
+}
+
+// Each seated member in its order, into the first or the second list of 96 words; how many are in each.
+pub fn gather_seated(
+    board: &[u64],
+    shard: ShardId,
+    ready: &mut [u64],
+    waiting: &mut [u64],
+) -> Counts
+    requires { ⌜ (length (now board) ≡ boardSize) × (length (now ready) ≡ mostMembers) × (length (now waiting) ≡ mostMembers) ⌝ }
+    ensures { λ r. ⌜ (r .ready + r .waiting ≤ mostMembers) × (length (now (ready .exit)) ≡ mostMembers) × (length (now (waiting .exit)) ≡ mostMembers)
+        × ((b : Board) → Holds (now (board .entry)) b → wellFormed b ≡ true →
+        (take (r .ready) (now (ready .exit)) ≡ gathered Ready (shard .0) b)
+        × (take (r .waiting) (now (waiting .exit)) ≡ gathered Waiting (shard .0) b)) ⌝ }
+{
+    let j = rows::committee_row(board, shard);
+    if MOST_COMMITTEES <= j {
+        return Counts {
+            ready: 0,
+            waiting: 0,
+        };
+    }
+    gather_seated_at(board, shard, j, ready, waiting)
+}
+
+// ---- Sorted and shuffled
 
 // The lent ids, sorted and shuffled; where a draw is refused, they are of no use.
 pub fn mix(ids: &mut [u64], draws: &[u64], at: Reader) -> Mixed

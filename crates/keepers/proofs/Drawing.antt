@@ -1,13 +1,12 @@
 -- Keepers, as the code lists and draws them.
-use Prim.Native.Nat.{ℕ, _+_, _/_, _≤_}
+use Prim.Native.Nat.{ℕ, suc, _+_, _/_, _≤_, _<_}
 use mathlib.Core.Path.{_≡_, refl, ap, sym, _∙_}
 use mathlib.Core.List.{List, _++_}
-use mathlib.Core.Bool.{Bool, true, false}
+use mathlib.Core.Bool.{true}
 use native.Mathlib.Omega.{arith}
-use lib.Dec.{leb}
-use lib.ListN.{length, take, drop, length-take, length-drop}
-use lib.Seq.{length-take-le, take-all, take-at, drop-at, take-append-le, take-take, take-add, drop-drop}
-use borrow.Rule.Slice.PartMut.{putMid, same-len-mid, take-put}
+use lib.ListN.{length, getD, take, drop, set, length-append, length-drop, length-set}
+use lib.Seq.{length-take-le, take-all, take-at, drop-at, take-append-le, take-suc, take-suc-set, take-take, getD-append-add}
+use borrow.Rule.Slice.PartMut.{putMid, take-put}
 use Rattle.types.specs.Numbers.{Shard, Id}
 use Rattle.types.specs.Shards.{leftOf, rightOf}
 use Rattle.types.specs.declared.Answer.{Answer}
@@ -16,131 +15,91 @@ use Rattle.rules.specs.Board.{Board, sizeOf}
 use Rattle.rules.specs.WellFormed.{wellFormed}
 use Rattle.rules.specs.Draws.{Drawn, andThen, shuffle}
 use Rattle.rules.specs.Reshapes.{halfUp, seatedMembers, keepersOf, drawKeepers}
-use Rattle.rules.proofs.Tests.{all-parts, le-of, lt-of-no}
+use Rattle.rules.proofs.Tests.{all-parts}
 use Rattle.rules.proofs.KeptBoard.{limits}
 use Rattle.sampling.specs.declared.Reader.{Reader}
-use Rattle.gathering.specs.Gathered.{gathered, Drew, Lacks, lacking, large}
-use Rattle.gathering.specs.declared.Members.the-variants.{Ready, Waiting}
-use Rattle.keepers.specs.Kept.{Behind, filled, seatsOf, rightDrawn}
+use Rattle.gathering.specs.Gathered.{Ready, Waiting, gathered, Drew, Lacks, lacking, large}
+use Rattle.keepers.specs.Kept.{filled, shared, seatsOf, rightDrawn}
 
 -- ---- one draw after another
 
-lacks-then : {A B : Type 0} (d : Drawn A) (f : A → List ℕ → Drawn B) (a : Answer) → Lacks d a → Lacks (andThen d f) a
+pub lacks-then : {A B : Type 0} (d : Drawn A) (f : A → List ℕ → Drawn B) (a : Answer) → Lacks d a → Lacks (andThen d f) a
 unfolding andThen
 lacks-then d f a lacking = lacking
 lacks-then d f a large = large
 
 module _ {A B : Type 0} (draws : List ℕ) (d : Drawn A) (x : A) (left : Reader) (h : Drew draws d x left) (f : A → List ℕ → Drawn B) where
-  then-is : andThen d f ≡ f x (drop (left .at) draws)
+  pub then-is : andThen d f ≡ f x (drop (left .at) draws)
   unfolding andThen
   then-is = rw (h .drawn)
 
--- ---- members listed from word n on: `gather` leaves g in w words, `mix` leaves m in the first k of them
-
-module _ (out g m : List ℕ) (n w j k : ℕ) (fits : n + w ≤ length out) (wide : length g ≡ w) (few : k ≤ w) (same : j ≡ k) where
-  abbrev gathered-in : List ℕ
-  gathered-in = putMid n w out g
-
-  front : length (take n out) ≡ n
-  front = length-take-le n out (omega arith)
-
-  pub mid-is : take j (drop n gathered-in) ≡ take k g
-  mid-is = rw (same, drop-at (take n out) (g ++ drop w (drop n out)) n front) (take-append-le k g (drop w (drop n out)) (omega arith))
-
-  module _ (long : length m ≡ length (take j (drop n gathered-in))) where
-    count : length m ≡ k
-    count = long ∙ ap length mid-is ∙ length-take-le k g (omega arith)
-
-    pub list-is : take k (drop n (putMid n j gathered-in m)) ≡ m
-    list-is =
-        let f : length (take n gathered-in) ≡ n = rw (take-put n w out g (omega arith)) front in
-        rw (drop-at (take n gathered-in) (m ++ drop j (drop n gathered-in)) n f) (take-at m (drop j (drop n gathered-in)) k count)
-
-    pub members-behind : Behind n out (putMid n j gathered-in m)
-    members-behind =
-        let lo : length gathered-in ≡ length out = same-len-mid n w out g (rw length-take (omega (arith, length-drop n out))) in
-        record {
-          long = same-len-mid n j gathered-in m long ∙ lo;
-          kept = take-put n j gathered-in m (omega arith) ∙ take-put n w out g (omega arith);
-        }
-
-    module _ (draws : List ℕ) (p : ℕ) (l : List Id) (e : take k g ≡ l) where
-      pub listed-done : (left : Reader) → Drew draws (shuffle (sort (take j (drop n gathered-in))) (drop p draws)) m left
-          → Drew draws (shuffle (sort l) (drop p draws)) (take k (drop n (putMid n j gathered-in m))) left
-      listed-done left d = record { read = d .read; drawn = rw (list-is, ← e, ← mid-is) (d .drawn) }
-
-      pub listed-lacks : (a : Answer) → Lacks (shuffle (sort (take j (drop n gathered-in))) (drop p draws)) a → Lacks (shuffle (sort l) (drop p draws)) a
-      listed-lacks a d = rw (← e, ← mid-is) d
-
--- ---- written behind
-
-pub behind-front : (n m : ℕ) (before after : List ℕ) → Behind (n + m) before after → Behind n before after
-behind-front n m before after b = record {
-  long = b .long;
-  kept = sym (take-take n (n + m) after (omega arith)) ∙ ap (take n) (b .kept) ∙ take-take n (n + m) before (omega arith);
-}
-
-pub behind-both : (n : ℕ) (x y z : List ℕ) → Behind n x y → Behind n y z → Behind n x z
-behind-both n x y z p q = record { long = q .long ∙ p .long; kept = q .kept ∙ p .kept }
-
 -- ---- the share filled
 
--- the ids at word n and those behind them, at most a share
-module _ (n m k share j : ℕ) (before after : List ℕ) (fits : n ≤ length before) (b : Behind (n + m) before after)
-    (most : (j ≤ share) × (m + k ≤ share → j ≡ m + k) × (share ≤ m + k → j ≡ share)) where
-  same-ready : take m (drop n after) ≡ take m (drop n before)
-  same-ready =
-      let l : length before ≡ length after = sym (b .long) in
-      sym (drop-at (take n after) (take m (drop n after)) n (length-take-le n after (omega arith)))
-      ∙ ap (drop n) (sym (take-add n m after) ∙ b .kept ∙ take-add n m before)
-      ∙ drop-at (take n before) (take m (drop n before)) n (length-take-le n before fits)
+-- i of the waiting ones stand behind the m ready ones
+pub record Behind (m : ℕ) (waiting before after : List ℕ) (i : ℕ) : Type 0 where
+  pub long : length after ≡ length before
+  pub same : take (m + i) after ≡ take (m + i) (take m before ++ waiting)
 
-  share-is : take j (drop n after) ≡ take share (take m (drop n before) ++ take k (drop (n + m) after))
-  share-is =
-      let whole : take (m + k) (drop n after) ≡ take m (drop n before) ++ take k (drop (n + m) after) =
-      take-add m k (drop n after) ∙ rw (same-ready, drop-drop m n after) in
-      rw (← whole) (go (leb (m + k) share) refl)
-    where
-      go : (c : Bool) → leb (m + k) share ≡ c → take j (drop n after) ≡ take share (take (m + k) (drop n after))
-      go true e =
-          let l = le-of (m + k) share e in
-          let q = most .1 l in
-          rw q (sym (take-all share (take (m + k) (drop n after)) (rw length-take (omega arith))))
-      go false e =
-          let l = lt-of-no (m + k) share e in
-          let q = most .2 (omega arith) in
-          rw q (sym (take-take share (m + k) (drop n after) (omega arith)))
+module _ (m : ℕ) (waiting before : List ℕ) (fits : m ≤ length before) where
+  count : length (take m before) ≡ m
+  count = length-take-le m before fits
 
-  pub share-filled : (c : Shard) (d : Board) (draws ds : List ℕ) (left : Reader) → Drew draws (shuffle (sort (gathered Waiting c d)) ds) (take k (drop (n + m) after)) left
-      → Drew draws (filled c share d (take m (drop n before)) ds) (take j (drop n after)) left
-  share-filled c d draws ds left h = record { read = h .read; drawn = then-is draws _ _ left h _ ∙ rw share-is }
+  pub none-behind : Behind m waiting before before 0
+  none-behind = let z : m + 0 ≡ m = omega arith in record { long = refl; same = rw z (sym (take-at (take m before) waiting m count)) }
 
-pub share-lacks : (c : Shard) (share : ℕ) (b : Board) (ready : List Id) (ds : List ℕ) (a : Answer) → Lacks (shuffle (sort (gathered Waiting c b)) ds) a → Lacks (filled c share b ready ds) a
-share-lacks c share b ready ds a h = lacks-then _ _ a h
+  module _ {after : List ℕ} {i : ℕ} (q : Behind m waiting before after i) where
+    pub one-behind : i < length waiting → m + i < length after → Behind m waiting before (set after (m + i) (getD waiting i 0)) (i + 1)
+    one-behind h l =
+        let next : m + (i + 1) ≡ suc (m + i) = omega arith in
+        let here : getD (take m before ++ waiting) (m + i) 0 ≡ getD waiting i 0 = rw count at (getD-append-add (take m before) waiting i 0) in
+        let room : m + i < length (take m before ++ waiting) = rw (length-append, count) (omega arith) in
+        record {
+          long = length-set after (m + i) (getD waiting i 0) ∙ q .long;
+          same = rw (next, take-suc-set after (m + i) (getD waiting i 0) l, take-suc (take m before ++ waiting) (m + i) 0 room, here, q .same);
+        }
+
+    pub all-behind : (share : ℕ) → length waiting ≤ i → m + i ≤ share → take (m + i) after ≡ take share (take m before ++ waiting)
+    all-behind share h l =
+        let few : length (take m before ++ waiting) ≤ m + i = rw (length-append, count) (omega arith) in
+        q .same ∙ take-all (m + i) _ few ∙ sym (take-all share _ (omega arith))
+
+    pub share-behind : (share : ℕ) → share ≤ m + i → take share after ≡ take share (take m before ++ waiting)
+    share-behind share l = sym (take-take share (m + i) after l) ∙ ap (take share) (q .same) ∙ take-take share (m + i) _ l
 
 -- ---- a child's keepers, and those of both
 
-module _ (c : Shard) (share : ℕ) (b : Board) (draws ds : List ℕ) where
-  pub keepers-are : (ready : List Id) (left : Reader) → Drew draws (shuffle (sort (gathered Ready c b)) ds) ready left → keepersOf c share b ds ≡ filled c share b ready (drop (left .at) draws)
-  unfolding keepersOf seatedMembers
-  keepers-are ready left h = then-is draws _ _ left h _
+-- the first m words lent, and other words there
+module _ (m : ℕ) (front out : List ℕ) (fits : m ≤ length out) (same : length front ≡ length (take m out)) where
+  front-length : length front ≡ m
+  front-length = same ∙ length-take-le m out fits
 
-  pub keepers-lack : (a : Answer) → Lacks (shuffle (sort (gathered Ready c b)) ds) a → Lacks (keepersOf c share b ds) a
-  unfolding keepersOf seatedMembers
-  keepers-lack a h = lacks-then _ _ a h
+  pub front-long : length (front ++ drop m out) ≡ length out
+  front-long = let l = front-length in rw (length-append, length-drop) (omega arith)
+
+  pub front-taken : take m (front ++ drop m out) ≡ front
+  front-taken = take-at front (drop m out) m front-length
+
+pub share-filled : (draws : List ℕ) (share : ℕ) (ready waiting : List Id) (ds : List ℕ) (mixed ids : List Id) → ids ≡ take share (ready ++ mixed)
+    → (left : Reader) → Drew draws (shuffle (sort waiting) ds) mixed left → Drew draws (filled share ready waiting ds) ids left
+share-filled draws share ready waiting ds mixed ids e left h = record { read = h .read; drawn = then-is draws _ _ left h _ ∙ rw e }
+
+pub keepers-are : (c : Shard) (share : ℕ) (b : Board) (ds : List ℕ) → keepersOf c share b ds ≡ shared share (gathered Ready c b) (gathered Waiting c b) ds
+unfolding keepersOf seatedMembers
+keepers-are c share b ds = refl
 
 pub size-within : (b : Board) → wellFormed b ≡ true → sizeOf b ≤ 32
 unfolding wellFormed
 size-within b ok = limits (b .settings) (all-parts _ ok .0) .size
 
 module _ (t : Shard) (b : Board) (draws : List ℕ) where
-  module _ (c : Shard) (child : c ≡ rightOf t) (share n : ℕ) (before after ds : List ℕ) (front : Behind n before after) where
-    pub right-done : (m : ℕ) (left : Reader) → Drew draws (keepersOf c share b ds) (take m (drop n after)) left
-        → Drew draws (rightDrawn t share b (take n before) ds) (seatsOf t after n m) left
-    right-done m left h = record { read = h .read; drawn = then-is draws _ _ left (rw child at h) _ ∙ rw (front .kept) }
-
-    pub right-lacks : (a : Answer) → Lacks (keepersOf c share b ds) a → Lacks (rightDrawn t share b (take n before) ds) a
-    right-lacks a h = lacks-then _ _ a (rw child at h)
+  -- the words from n on are lent, and come back as `part`
+  module _ (c : Shard) (child : c ≡ rightOf t) (share n w : ℕ) (out part ds : List ℕ) where
+    pub right-done : n ≤ length out → (m : ℕ) → m ≤ length part → (left : Reader) → Drew draws (keepersOf c share b ds) (take m part) left
+        → Drew draws (rightDrawn t share b (take n out) ds) (seatsOf t (putMid n w out part) n m) left
+    right-done fits m few left h =
+        let rest = drop w (drop n out) in
+        let ids : take m (drop n (putMid n w out part)) ≡ take m part = ap (take m) (drop-at (take n out) (part ++ rest) n (length-take-le n out fits)) ∙ take-append-le m part rest few in
+        record { read = h .read; drawn = then-is draws _ _ left (rw child at h) _ ∙ rw (ids, take-put n w out part fits) }
 
   module _ (c : Shard) (child : c ≡ leftOf t) (size : ℕ) (is : size ≡ sizeOf b) where
     pub both-are : (lefts : List Id) (left : Reader) → Drew draws (keepersOf c (halfUp size) b draws) lefts left → drawKeepers t b draws ≡ rightDrawn t (size / 2) b lefts (drop (left .at) draws)

@@ -1,6 +1,5 @@
 -- What the code tells of keepers that are drawn.
-use Prim.Native.Nat.{ℕ, _+_, _*_, _≤_}
-use mathlib.Core.Path.{_≡_}
+use Prim.Native.Nat.{ℕ, _+_, _≤_}
 use mathlib.Core.List.{List, [], _++_}
 use lib.ListN.{length, take, drop}
 use Rattle.types.specs.Numbers.{Shard, Id}
@@ -10,24 +9,15 @@ use Rattle.rules.specs.Lists.{sort}
 use Rattle.rules.specs.Board.{Seat, Board, mostMembers, mostSeats}
 use Rattle.rules.specs.Draws.{Drawn, drew, andThen, shuffle}
 use Rattle.rules.specs.Reshapes.{keepersOf, seatAll}
-use Rattle.gathering.specs.Gathered.{gathered, Drew, Lacks}
-use Rattle.gathering.specs.declared.Members.the-variants.{Waiting}
+use Rattle.gathering.specs.Gathered.{Drew, Lacks}
 use Rattle.keepers.specs.declared.Listed.{Listed}
 use Rattle.keepers.specs.declared.Listed.the-variants as listed
 use Rattle.keepers.specs.declared.Keepers.{Keepers}
 use Rattle.keepers.specs.declared.Keepers.the-variants.{Drawn as Kept, Refused}
 
--- scratch for a child's members, ready and waiting; and for the keepers of both children
-abbrev pub childRoom : ℕ
-childRoom = 2 * mostMembers
-
+-- room for the left child's keepers, and behind them for every member of the right one
 abbrev pub keepersRoom : ℕ
-keepersRoom = mostSeats + childRoom
-
--- written from word n on
-pub record Behind (n : ℕ) (before after : List ℕ) : Type 0 where
-  pub long : length after ≡ length before
-  pub kept : take n after ≡ take n before
+keepersRoom = mostSeats + mostMembers
 
 -- ---- a child's list
 
@@ -41,9 +31,12 @@ abbrev pub TellsListed : List ℕ → Drawn (List Id) → List Id → Listed →
 TellsListed draws d ids (listed.Done n left) = Drew draws d (take n ids) left
 TellsListed draws d ids (listed.Refused a) = Lacks d a
 
--- ready ones are drawn, and the waiting ones fill the share
-abbrev pub filled : Shard → ℕ → Board → List Id → List ℕ → Drawn (List Id)
-filled c share b ready draws = andThen (shuffle (sort (gathered Waiting c b)) draws) (λ waiting rest. drew (take share (ready ++ waiting)) rest)
+-- the waiting ones fill the share, behind ready ones that are drawn
+abbrev pub filled : ℕ → List Id → List Id → List ℕ → Drawn (List Id)
+filled share drawn waiting draws = andThen (shuffle (sort waiting) draws) (λ mixed rest. drew (take share (drawn ++ mixed)) rest)
+
+abbrev pub shared : ℕ → List Id → List Id → List ℕ → Drawn (List Id)
+shared share ready waiting draws = andThen (shuffle (sort ready) draws) (λ drawn rest. filled share drawn waiting rest)
 
 -- ---- the keepers of both
 

@@ -33,8 +33,7 @@ use Rattle.sampling.specs.declared.Reader.{Reader}
 use Rattle.pool.specs.Told.{TellsTurn}
 use Rattle.pool.specs.declared.Turned.{Turned}
 use Rattle.pool.specs.declared.Turned.the-variants.{Done, Refused}
-use Rattle.gathering.specs.declared.Members.the-variants.{Staying}
-use Rattle.gathering.specs.Gathered.{gathered, Lacks, lacking, large}
+use Rattle.gathering.specs.Gathered.{Staying, gathered, Lacks, lacking, large}
 use Rattle.batches.specs.Underway.{Within, Underway}
 use Rattle.batches.proofs.Law.{TellsShard, begins, ends}
 use Rattle.batches.proofs.Loop.{turn-done, turn-refused}

@@ -3,7 +3,6 @@ use batches::Which;
 use board::layout::MOST_RESHAPES;
 use committee::abort;
 use drains::Plan;
-use gathering::Members;
 use gathering::Mixed;
 use pool::Turned;
 use sampling::Reader;
@@ -24,7 +23,7 @@ ghost use Rattle.board.specs.Held.{Holds};
 ghost use Rattle.board.specs.Permitted.{PermittedStep};
 ghost use Rattle.steps.specs.Inner.{Step, Steps};
 ghost use Rattle.pool.specs.Told.{TellsTurn};
-ghost use Rattle.gathering.specs.Gathered.{gathered};
+ghost use Rattle.gathering.specs.Gathered.{Staying, gathered};
 ghost use Rattle.batches.specs.Underway.{Within};
 ghost use Rattle.halving.specs.Gate.{lefts, rights};
 ghost use Rattle.schedule_splits.specs.Stay.{Stay};
@@ -70,7 +69,7 @@ fn split_among(
     at: Reader,
 ) -> Turned
     requires { ⌜ (length (now board) ≡ boardSize) × (length (now ids) ≤ mostMembers) × (at .at ≤ length (now draws)) ⌝ }
-    ensures { λ r. ⌜ Within (length (now (draws .entry))) r × ((b : Board) → Holds (now (board .entry)) b → wellFormed b ≡ true → now (ids .entry) ≡ gathered Members.Staying (target .0) b →
+    ensures { λ r. ⌜ Within (length (now (draws .entry))) r × ((b : Board) → Holds (now (board .entry)) b → wellFormed b ≡ true → now (ids .entry) ≡ gathered Staying (target .0) b →
         TellsTurn (now (draws .entry)) (now (board .exit)) b (scheduleSplit (target .0) (drop (at .at) (now (draws .entry))) b) r) ⌝ }
 {
     let mixed = gathering::mix(ids, draws, at);
@@ -87,7 +86,7 @@ fn try_schedule_split(board: &mut [u64], target: ShardId, draws: &[u64], at: Rea
         TellsTurn (now (draws .entry)) (now (board .exit)) b (scheduleSplit (target .0) (drop (at .at) (now (draws .entry))) b) r) ⌝ }
 {
     let mut ids = [0u64; 96];
-    let n = gathering::gather(board, Members::Staying, target, &mut ids);
+    let n = gathering::gather_staying(board, target, &mut ids);
     split_among(board, target, &mut ids[..n], draws, at)
 }
 

@@ -1,43 +1,28 @@
-use lib.ListN.{take, drop}
-use native.Mathlib.Omega.{arith}
-use Rattle.keepers.proofs.Drawing.{behind-front, share-filled, share-lacks}
+use mathlib.Core.Path.{refl}
+use lib.ListN.{take}
+use Rattle.keepers.proofs.Drawing.{lacks-then, share-filled}
 use borrow.Author.Needs.{needs}
 use Rattle.keepers.proofs.fill_share.Statement.{statement}
 use Rattle.keepers.proofs.fill_share.Tie as tie
 
-add-lesser : tie.Need-add-lesser
-add-lesser c = let w = rw (c .before .waiting .given .1) at (c .before .before .before .before .before .shuffled-members .ensures .1) in omega (arith, w .0, c .before .before .before .before .before .before .before .before .before .before .pre .2)
-
 returns : tie.Need-returns
 returns c =
-    let a = c .before .before .before .before .before .before .before .before .before .before .before .args in
-    let e = c .before .before .before .before .before .before .shuffled-members .ensures in
-    let w = rw (c .before .before .waiting .given .1) at (e .1) in (
-      behind-front (a .n) (a .m) _ _ (e .0),
-      (c .lesser .ensures .0, w .1),
-      λ b h ok.
-          let d = rw (c .before .before .waiting .given .1) at (e .2 b h ok) in
-          share-filled (a .n) (a .m) _ (a .share) _ (a .out .now) _ (omega (arith, c .before .before .before .before .before .before .before .before .before .before .before .pre .3)) (e .0) (c .lesser .ensures) _ b _ _ _ d,
-    )
+    let a = c .before .before .before .before .before .before .before .before .before .before .before .before .before .before .before .args in
+    let e = c .before .before .put-behind .ensures in
+    let d = rw (c .before .before .before .before .before .before .mixed .given .1) at (c .before .before .before .before .before .before .before .before .before .before .mix .ensures .1) in
+    (e .0, (e .1, d .read), share-filled _ (a .share) (take (a .m) (a .out .now)) _ _ _ _ (e .2) _ d)
 
 returns-2 : tie.Need-returns-2
-returns-2 c =
-    let a = c .before .before .before .before .before .before .before .before .before .before .args in
-    let e = c .before .before .before .before .before .shuffled-members .ensures in (
-      behind-front (a .n) (a .m) _ _ (e .0),
-      tt,
-      λ b h ok. share-lacks _ (a .share) b (take (a .m) (drop (a .n) (a .out .now))) _ _ (rw (c .before .waiting2 .given .1) at (e .2 b h ok)),
-    )
+returns-2 c = (refl, tt, lacks-then _ _ _ (rw (c .before .mixed2 .given .1) at (c .before .before .before .before .before .mix .ensures .1)))
 
 pub fill-share-spec : {M : Type 1} → statement M
 fill-share-spec =
     tie.close
     (tie.spec
+    (λ c κs. search needs)
     (λ c. search needs)
     (λ c κs. search needs)
     (λ c. search needs)
-    add-lesser
-    (λ c κs. search needs)
     (λ c. search needs)
     (λ c. search needs)
     returns
