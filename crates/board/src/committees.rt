@@ -106,7 +106,7 @@ pub fn clear_members(ws: &mut [u64], j: usize)
 {
     let a = COMMITTEES_AT + 1 + j * COMMITTEE_WIDTH + MEMBERS_AT;
     let e = a + MEMBERS_SIZE;
-    shifts::clear(&mut ws[a..e]);
+    tables::empty(&mut ws[a..e], 1, MOST_MEMBERS);
 }
 
 // ---- committees opened and closed

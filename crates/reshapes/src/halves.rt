@@ -78,7 +78,7 @@ pub fn clear_left(ws: &mut [u64], i: usize)
 {
     let a = RESHAPES_AT + 1 + i * RESHAPE_WIDTH + LEFT_AT;
     let e = a + HALF_SIZE;
-    shifts::clear(&mut ws[a..e]);
+    tables::empty(&mut ws[a..e], 1, MOST_HALF);
 }
 
 pub fn clear_right(ws: &mut [u64], i: usize)
@@ -88,5 +88,5 @@ pub fn clear_right(ws: &mut [u64], i: usize)
 {
     let a = RESHAPES_AT + 1 + i * RESHAPE_WIDTH + RIGHT_AT;
     let e = a + HALF_SIZE;
-    shifts::clear(&mut ws[a..e]);
+    tables::empty(&mut ws[a..e], 1, MOST_HALF);
 }

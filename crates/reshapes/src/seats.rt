@@ -150,5 +150,5 @@ pub fn clear(ws: &mut [u64], i: usize)
 {
     let a = RESHAPES_AT + 1 + i * RESHAPE_WIDTH + SEATS_AT;
     let e = a + SEATS_SIZE;
-    shifts::clear(&mut ws[a..e]);
+    tables::empty(&mut ws[a..e], SEAT_WIDTH, MOST_SEATS);
 }

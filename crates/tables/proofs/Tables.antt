@@ -1,14 +1,15 @@
 -- Tables in words: the laws of rows, over any width and any room.
 use Prim.Native.Nat.{ℕ, zero, suc, _+_, _-_, _*_, _≤_, _<_}
 use mathlib.Core.Path.{_≡_, refl, ap, sym, _∙_}
-use mathlib.Core.List.{List, [], _∷_, _++_, append-assoc}
+use mathlib.Core.List.{List, [], _∷_, _++_, append-assoc, append-nil}
 use native.Mathlib.Omega.{arith}
 use native.Mathlib.Nat.{zero-mul, mul-le-mul-right}
 use lib.ListN.{length, getD, set, take, drop, replicate, length-append, length-drop, length-replicate, length-set, take-append-drop, replicate-append-replicate}
 use lib.Seq.{set-getD, take-append-add, set-split, split-at, length-take-le}
 use Rattle.rules.specs.Snapshot.{rowsWords}
 use Rattle.tables.specs.Rows.{pad, table, insertAt, removeAt, Row}
-use Rattle.shifts.proofs.Parts.{Spot, spot-word}
+use borrow.Rule.Slice.PartMut.{putMid}
+use Rattle.shifts.proofs.Parts.{Spot, spot-word, mid-put, mid-read}
 
 -- ---- padding
 
@@ -135,6 +136,21 @@ module _ {A : Type 0} (f : A → List ℕ) (w : ℕ) (fw : (x : A) → length (f
 module _ {A : Type 0} (f : A → List ℕ) (w : ℕ) (fw : (x : A) → length (f x) ≡ w) (cap : ℕ) (xs : List A) (t : List ℕ) (e : t ≡ table f w cap xs) where
   pub counted : getD t 0 0 ≡ length xs
   counted = ap (λ (l : List ℕ). getD l 0 0) e
+
+  -- the count and the rows zeroed: the room past them was
+  pub emptied : (n : ℕ) (v : List ℕ) → n ≡ length xs → length xs ≤ cap → v ≡ replicate (length (take (1 + n * w - 0) (drop 0 t))) 0
+      → putMid 0 (1 + n * w - 0) t v ≡ replicate (length t) 0
+  unfolding rowsWords
+  emptied n v q h z =
+      let F : List ℕ = length xs ∷ rowsWords f xs in
+      let Z : List ℕ = replicate ((cap - length xs) * w) 0 in
+      let s : t ≡ F ++ Z = e ∙ built f w fw cap xs [] xs (sym (append-nil xs)) h in
+      let d : length F ≡ 1 + n * w - 0 = omega (arith, rows-length f w fw xs, ap (λ (k : ℕ). k * w) q) in
+      let r : cap ≡ length xs + (cap - length xs) = omega arith in
+      let both : 1 + n * w - 0 + (cap - length xs) * w ≡ length t = omega (arith, ap (λ (k : ℕ). k * w) r, ap (λ (k : ℕ). k * w) q, ap length e ∙ table-length f w cap xs) in
+      let m : length (take (1 + n * w - 0) (drop 0 t)) ≡ 1 + n * w - 0 = ap length (mid-read [] F Z t 0 (1 + n * w - 0) s refl d) ∙ d in
+      mid-put [] F Z t v 0 (1 + n * w - 0) s refl d ∙ ap (λ (y : List ℕ). y ++ Z) (z ∙ ap (λ (k : ℕ). replicate k 0) m)
+      ∙ replicate-append-replicate {A = ℕ} (1 + n * w - 0) ((cap - length xs) * w) 0 ∙ ap (λ (k : ℕ). replicate k 0) both
 
   module _ (j : ℕ) (u : List ℕ) where
     -- what `open_gap` ensures, and the store of the count after it

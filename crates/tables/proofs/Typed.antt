@@ -11,6 +11,7 @@ use Rattle.rules.specs.Table.{Table, remove}
 use Rattle.rules.specs.WellFormed.{rising}
 use Rattle.rules.specs.Snapshot.{rowsWords}
 use Rattle.rules.proofs.Counts.{Alike, same, apart, alike}
+use Rattle.tables.proofs.Tables.{cleared}
 use Rattle.tables.specs.Rows.{table, insertAt, removeAt, Rising, firstWhere, placeOf, without, Row, wordsIn, keyIn, keyOf}
 
 module _ {A B : Type 0} (g : A → B) where
@@ -75,6 +76,11 @@ module _ {A : Type 0} (f : A → List ℕ) (w : ℕ) (fw : (x : A) → length (f
     removed-as j l h g =
         let n : length (map asRow xs) ≡ length xs = length-map xs asRow in
         g (map asRow xs) (e ∙ table-map xs) (omega arith) (omega arith) ∙ sym (table-map (removeAt xs j) ∙ rw (map-remove asRow xs j))
+
+    -- `empty`
+    pub emptied-as : length xs ≤ cap → ((rs : List (Row w)) → t ≡ table wordsIn w cap rs → length rs ≤ cap → u ≡ replicate (length t) 0) → u ≡ table f w cap []
+    emptied-as l g =
+        let n : length (map asRow xs) ≡ length xs = length-map xs asRow in cleared f w cap xs t u e (g (map asRow xs) (e ∙ table-map xs) (omega arith))
 
     -- the key is the first word
     module _ (key : A → ℕ) (first : (x : A) → getD (f x) 0 0 ≡ key x) where

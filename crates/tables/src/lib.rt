@@ -114,6 +114,15 @@ pub fn drop_rows(t: &mut [u64], w: usize, cap: usize, x: u64)
     t[0] = k as u64;
 }
 
+// No row stays, and the room of those that stood is zeroed.
+pub fn empty(t: &mut [u64], w: usize, cap: usize)
+    requires { ⌜ (length (now t) ≡ 1 + cap * w) × (cap < 4096) × (w < 4096) ⌝ }
+    ensures { λ _. ⌜ ((rs : List (Row w)) → now (t .entry) ≡ table wordsIn w cap rs → length rs ≤ cap → now (t .exit) ≡ replicate (length (now (t .entry))) 0) ⌝ }
+{
+    let e = 1 + rows_within(t, cap) * w;
+    shifts::clear(&mut t[0..e]);
+}
+
 // ---- Lists of ids: rows of one word
 
 pub fn push(t: &mut [u64], cap: usize, x: u64)

@@ -3,9 +3,10 @@ use native.Mathlib.Omega.{arith}
 use lib.ListN.{getD}
 use Rattle.rules.specs.Board.{mostHalf}
 use Rattle.rules.specs.Snapshot.{idWords}
-use Rattle.tables.proofs.Tables.{cleared}
+use Rattle.tables.proofs.Typed.{emptied-as}
 use Rattle.board.specs.Held.{noReshape}
-use Rattle.reshapes.proofs.OfReshapes.{left-lent, left-back}
+use Rattle.board.proofs.Widths.{id-wide}
+use Rattle.reshapes.proofs.OfReshapes.{left-lent, left-back, left-room}
 use borrow.Author.Needs.{needs}
 use Rattle.reshapes.proofs.halves.clear_left.Statement.{statement}
 use Rattle.reshapes.proofs.halves.clear_left.Tie as tie
@@ -13,7 +14,7 @@ use Rattle.reshapes.proofs.halves.clear_left.Tie as tie
 returns : tie.Need-returns
 returns c = λ b h l.
     let i = c .before .before .before .before .before .args .i in
-    left-back _ b h i l (λ l. []) _ (cleared idWords 1 mostHalf (getD (b .reshapes) i noReshape .val .left) _ _ (left-lent _ b h i l) (c .before .before .clear .ensures)) (omega arith)
+    left-back _ b h i l (λ l. []) _ (emptied-as idWords 1 id-wide mostHalf (getD (b .reshapes) i noReshape .val .left) _ _ (left-lent _ b h i l) (left-room _ b h i l) (c .before .before .empty .ensures)) (omega arith)
 
 pub clear-left-spec : {M : Type 1} → statement M
 clear-left-spec =
