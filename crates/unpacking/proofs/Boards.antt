@@ -45,6 +45,10 @@ settings-read ws out y z r l ly ez q =
 
 -- ---- the board
 
+-- a section ends within words that are as many as those lent
+pub within : {e m n : ℕ} → m ≡ n → boardSize ≤ n → e ≤ boardSize → e ≤ m
+within l room h = omega arith
+
 module _ {bytes s m c d o r : List ℕ} {atM atC atB atO atR end : ℕ} (rs : (ws : List ℕ) → AsWords bytes ws → SettingsRead ws s atM)
     (rm : (ws : List ℕ) → AsWords bytes ws → TableRead Machines mostMachines ws m atM atC)
     (rc : (ws : List ℕ) → AsWords bytes ws → TableRead Committees mostCommittees ws c atC atB)
