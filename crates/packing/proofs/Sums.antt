@@ -1,5 +1,5 @@
 -- The whole board: its size and its sections, one behind the other.
-use Prim.Native.Nat.{ℕ, _+_, _*_, _≤_}
+use Prim.Native.Nat.{ℕ, _+_, _-_, _*_, _≤_}
 use mathlib.Core.Path.{_≡_, refl}
 use mathlib.Core.List.{List, _++_}
 use native.Mathlib.Omega.{arith}
@@ -11,20 +11,25 @@ use mir.Facts.{fits-le, fits-lit}
 use Rattle.rules.specs.Board.{mostMachines, mostCommittees, mostBounds, mostRotations, mostReshapes}
 use Rattle.board.specs.Layout.{machineWidth, committeeWidth, boundaryWidth, rotationWidth, reshapeWidth, machinesAt, committeesAt, boundsAt, rotationsAt, reshapesAt, boardSize}
 use Rattle.packing.specs.declared.Nested.the-variants.{Committees, Reshapes}
-use Rattle.packing.specs.Packed.{between, flat, nested, packed}
+use Rattle.packing.specs.Packed.{between, flat, nested, fromBounds, packed}
 use Rattle.packing.proofs.Sizes.{between-length, flat-most}
 use Rattle.packing.proofs.Lefts.{Left, start}
 
 pub packed-start : (t out : List ℕ) → length (packed t) * 8 ≤ length out
     → Left (packed t) 0 out
     (take 7 t
-    ++ (flat machineWidth mostMachines (between machinesAt committeesAt t)
-    ++ (nested Committees mostCommittees (between committeesAt boundsAt t)
-    ++ (flat boundaryWidth mostBounds (between boundsAt rotationsAt t)
-    ++ (flat rotationWidth mostRotations (between rotationsAt reshapesAt t) ++ nested Reshapes mostReshapes (between reshapesAt boardSize t))))))
+    ++ (flat machineWidth mostMachines (between machinesAt committeesAt t) ++ (nested Committees mostCommittees (between committeesAt boundsAt t) ++ fromBounds t)))
     0 out
 unfolding packed
 packed-start t out h = start _ _ 0 out refl (omega arith)
+
+pub bounds-start : (t out : List ℕ) (at : ℕ) → at + length (fromBounds t) * 8 ≤ length out
+    → Left (fromBounds t) at out
+    (flat boundaryWidth mostBounds (between boundsAt rotationsAt t)
+    ++ (flat rotationWidth mostRotations (between rotationsAt reshapesAt t) ++ nested Reshapes mostReshapes (between reshapesAt boardSize t)))
+    at out
+unfolding fromBounds
+bounds-start t out at h = start _ _ at out refl h
 
 pub within : {e n : ℕ} → n ≡ boardSize → e ≤ boardSize → e ≤ n
 within l h = rw l h
@@ -46,43 +51,40 @@ module _ (t : List ℕ) (l : length t ≡ boardSize) where
   pub reshapes-long : length (between reshapesAt boardSize t) ≡ 1 + mostReshapes * reshapeWidth
   reshapes-long = between-length reshapesAt boardSize t (omega arith)
 
--- the sizes of the sections, summed one after another
-pub record Summed (t : List ℕ) (m c b o r : ℕ) : Type 0 where
-  pub is : 7 + m + c + b + o + r ≡ length (packed t)
-  pub small : 7 + m + c + b + o + r ≤ boardSize
-  pub fits1 : Fits w64 (7 + m)
-  pub fits2 : Fits w64 (7 + m + c)
-  pub fits3 : Fits w64 (7 + m + c + b)
-  pub fits4 : Fits w64 (7 + m + c + b + o)
-  pub fits5 : Fits w64 (7 + m + c + b + o + r)
+  -- the sizes of the sections, summed
 
-pub summed : (t : List ℕ) (m c b o r : ℕ) → length t ≡ boardSize
-    → m ≡ length (flat machineWidth mostMachines (between machinesAt committeesAt t))
-    → (c ≡ length (nested Committees mostCommittees (between committeesAt boundsAt t))) × (c ≤ length (between committeesAt boundsAt t))
-    → b ≡ length (flat boundaryWidth mostBounds (between boundsAt rotationsAt t))
-    → o ≡ length (flat rotationWidth mostRotations (between rotationsAt reshapesAt t))
-    → (r ≡ length (nested Reshapes mostReshapes (between reshapesAt boardSize t))) × (r ≤ length (between reshapesAt boardSize t))
-    → Summed t m c b o r
-unfolding packed
-summed t m c b o r l em ec eb eo er = record {
-  is = simp length-append (omega (arith, length-take-le 7 t (omega arith)));
-  small = most;
-  fits1 = fitting (omega (arith, most));
-  fits2 = fitting (omega (arith, most));
-  fits3 = fitting (omega (arith, most));
-  fits4 = fitting (omega (arith, most));
-  fits5 = fitting most;
-}
-  where
-    most : 7 + m + c + b + o + r ≤ boardSize
-    most = omega (
+  pub bounds-summed : (b o r : ℕ) → b ≡ length (flat boundaryWidth mostBounds (between boundsAt rotationsAt t))
+      → o ≡ length (flat rotationWidth mostRotations (between rotationsAt reshapesAt t))
+      → (r ≡ length (nested Reshapes mostReshapes (between reshapesAt boardSize t))) × (r ≤ length (between reshapesAt boardSize t))
+      → (b + o + r ≡ length (fromBounds t)) × (b + o + r ≤ boardSize - boundsAt)
+  unfolding fromBounds
+  bounds-summed b o r eb eo er = (
+    simp length-append (omega arith),
+    omega (
       arith,
-      flat-most machineWidth mostMachines (between machinesAt committeesAt t) (machines-long t l),
-      committees-long t l,
-      flat-most boundaryWidth mostBounds (between boundsAt rotationsAt t) (bounds-long t l),
-      flat-most rotationWidth mostRotations (between rotationsAt reshapesAt t) (rotations-long t l),
-      reshapes-long t l,
-    )
+      flat-most boundaryWidth mostBounds (between boundsAt rotationsAt t) bounds-long,
+      flat-most rotationWidth mostRotations (between rotationsAt reshapesAt t) rotations-long,
+      reshapes-long,
+    ),
+  )
 
-    fitting : {n : ℕ} → n ≤ boardSize → Fits w64 n
-    fitting h = fits-le h (fits-lit tt)
+  pub summed : (m c s : ℕ) → m ≡ length (flat machineWidth mostMachines (between machinesAt committeesAt t))
+      → (c ≡ length (nested Committees mostCommittees (between committeesAt boundsAt t))) × (c ≤ length (between committeesAt boundsAt t))
+      → (s ≡ length (fromBounds t)) × (s ≤ boardSize - boundsAt)
+      → (7 + m + c + s ≡ length (packed t)) × (7 + m + c + s ≤ boardSize)
+  unfolding packed
+  summed m c s em ec es = (
+    simp length-append (omega (arith, length-take-le 7 t (omega arith))),
+    omega (arith, flat-most machineWidth mostMachines (between machinesAt committeesAt t) machines-long, committees-long),
+  )
+
+-- each sum is a word, where the last is small
+module _ (a b c : ℕ) (h : a + b + c ≤ boardSize) where
+  pub fits-first : Fits w64 a
+  fits-first = fits-le {n = boardSize} (omega arith) (fits-lit tt)
+
+  pub fits-second : Fits w64 (a + b)
+  fits-second = fits-le {n = boardSize} (omega arith) (fits-lit tt)
+
+  pub fits-third : Fits w64 (a + b + c)
+  fits-third = fits-le h (fits-lit tt)
