@@ -4,7 +4,7 @@ use mathlib.Core.Path.{_≡_, refl, ap, sym, _∙_}
 use mathlib.Core.Logic.{inl, inr}
 use mathlib.Core.List.{List, [], _∷_}
 use mathlib.Core.Option.{Option}
-use mathlib.Core.Bool.{Bool, true, false, cond, not, false≢true}
+use mathlib.Core.Bool.{Bool, true, false, cond, not}
 use native.Mathlib.Omega.{arith}
 use types.Run.{OneOf}
 use denote.Enum.Declared.{tagOf}
@@ -22,7 +22,7 @@ use Rattle.rules.specs.Board.{split, merge, Reshape, Board, mostReshapes, onRot
 use Rattle.rules.specs.WellFormed.{wellFormed}
 use Rattle.rules.specs.Draws.{Drawn, drawFrom}
 use Rattle.rules.specs.Moves.{poolOf, says, place, quit, takeOff, hasParty, isParty, dropFirst, isKind, giveUpSeat}
-use Rattle.rules.specs.Turns.{Turn, finished, poolDraw}
+use Rattle.rules.specs.Turns.{finished, poolDraw}
 use Rattle.rules.specs.Places.{isScheduledSplit, isCarved, leaveSeat, leaveFromSeat, leaveFrom}
 use Rattle.rules.proofs.KeptTables.{holds-at}
 use Rattle.tables.specs.Rows.{firstWhere, removeAt}
@@ -32,7 +32,6 @@ use Rattle.board.proofs.Keyed.{machines-rise, reshapes-rise}
 use Rattle.rows.specs.Found.{Found}
 use Rattle.moves.proofs.Exiting.{kind-split}
 use Rattle.pool.proofs.Struck.{pool-stands}
-use Rattle.exits.specs.Left.{seatEmpty, unseated}
 
 -- ---- whether a scheduled split stands there, asked at the row that was found
 
@@ -79,38 +78,27 @@ module _ {A : Type 0} (f : A → Bool) where
       go false h ih = ih (omega arith)
 
 module _ (s : Shard) (x : Id) (b : Board) (k : ℕ) (e : k ≡ firstWhere (hasParty s x) (b .rotations)) where
-  pub party : k < length (b .rotations) → isParty s x b ≡ true
-  unfolding isParty
-  party l = first-inside (hasParty s x) (b .rotations) (rw e at l)
-
-  pub no-party : length (b .rotations) ≤ k → isParty s x b ≡ false
-  unfolding isParty
-  no-party l = first-past (hasParty s x) (b .rotations) (rw e at l)
+  pub turn-party : (ds : List ℕ) → k < length (b .rotations) → leaveFromSeat s x ds b ≡ finished 0 ds (onRotations (dropFirst (hasParty s x)) (leaveSeat s x b))
+  unfolding leaveFromSeat isParty
+  turn-party ds l = rw (first-inside (hasParty s x) (b .rotations) (rw e at l))
 
   -- the rotations are as they were, so it goes at the row that was found
   pub party-goes : (after : List ℕ) → Holds after (onRotations (λ t. removeAt t k) (leaveSeat s x b)) → Holds after (onRotations (dropFirst (hasParty s x)) (leaveSeat s x b))
   unfolding leaveSeat takeOff place quit giveUpSeat
   party-goes after h = rw (drop-is-removeAt (hasParty s x) (b .rotations), ← e) h
 
-module _ {A : Type 0} (f : A → Turn) (x y : A) (z : Turn) where
-  either : (p c : Bool) → (p or c) ≡ true → cond p (f x) (cond c (f y) z) ≡ f (cond p x y)
-  unfolding _or_
-  either true c h = refl
-  either false c h = rw h
+  module _ (l : length (b .rotations) ≤ k) where
+    no-party : isParty s x b ≡ false
+    unfolding isParty
+    no-party = first-past (hasParty s x) (b .rotations) (rw e at l)
 
-  neither : (p c : Bool) → (p or c) ≡ false → cond p (f x) (cond c (f y) z) ≡ z
-  unfolding _or_
-  neither true c h = absurd (false≢true (sym h))
-  neither false c h = rw h
+    pub turn-carved : (ds : List ℕ) → isCarved s b ≡ true → leaveFromSeat s x ds b ≡ finished 0 ds (leaveSeat s x b)
+    unfolding leaveFromSeat
+    turn-carved ds c = rw (no-party, c)
 
-module _ (s : Shard) (x : Id) (b : Board) (ds : List ℕ) where
-  pub turn-empty : (isParty s x b or isCarved s b) ≡ true → leaveFromSeat s x ds b ≡ finished 0 ds (seatEmpty s x b)
-  unfolding leaveFromSeat
-  turn-empty = either (finished 0 ds) _ _ _ (isParty s x b) (isCarved s b)
-
-  pub turn-draws : (isParty s x b or isCarved s b) ≡ false → leaveFromSeat s x ds b ≡ poolDraw s false (λ y c. c) ds (leaveSeat s x b)
-  unfolding leaveFromSeat
-  turn-draws = neither (finished 0 ds) _ _ _ (isParty s x b) (isCarved s b)
+    pub turn-draws : (ds : List ℕ) → isCarved s b ≡ false → leaveFromSeat s x ds b ≡ poolDraw s false (λ y c. c) ds (leaveSeat s x b)
+    unfolding leaveFromSeat
+    turn-draws ds c = rw (no-party, c)
 
 pub left-rotations : (s : Shard) (x : Id) (b : Board) → leaveSeat s x b .rotations ≡ b .rotations
 unfolding leaveSeat takeOff place quit giveUpSeat
@@ -123,17 +111,11 @@ drawn-left s x b ok u ds d e = rw (pool-stands s x b ok u) e
 
 -- ---- the machine at row i
 
-no-seat-tag : OneOf (0 ∷ 2 ∷ 3 ∷ 4 ∷ []) 1 → ⊥
-no-seat-tag (inl e) = omega arith
-no-seat-tag (inr (inl e)) = omega arith
-no-seat-tag (inr (inr (inl e))) = omega arith
-no-seat-tag (inr (inr (inr e))) = omega arith
-
-no-watch-tag : OneOf (0 ∷ 1 ∷ 3 ∷ 4 ∷ []) 2 → ⊥
-no-watch-tag (inl e) = omega arith
-no-watch-tag (inr (inl e)) = omega arith
-no-watch-tag (inr (inr (inl e))) = omega arith
-no-watch-tag (inr (inr (inr e))) = omega arith
+-- a place of the tags 0, 3 and 4 is not one of 1 and 2
+other-tag : (n : ℕ) → 1 ≤ n → n ≤ 2 → OneOf (0 ∷ 3 ∷ 4 ∷ []) n → ⊥
+other-tag n a z (inl e) = omega arith
+other-tag n a z (inr (inl e)) = omega arith
+other-tag n a z (inr (inr e)) = omega arith
 
 module _ (b : Board) (i x : ℕ) (k : x ≡ getD (b .machines) i noMachine .key) where
   abbrev its : Place
@@ -146,22 +128,18 @@ module _ (b : Board) (i x : ℕ) (k : x ≡ getD (b .machines) i noMachine .key)
   unfolding leaveFrom
   from-seat ds s r w e = rw (e, ← k)
 
-  -- no seat, by the tags of the other places
-  pub from-unseated : (ds : List ℕ) → OneOf (0 ∷ 2 ∷ 3 ∷ 4 ∷ []) (tagOf the-type its) → leaveFrom its (getD (b .machines) i noMachine .key) ds b ≡ finished 0 ds (unseated its (getD (b .machines) i noMachine .key) b)
+  pub from-watch : (ds : List ℕ) (s : ShardId) (w : Epoch) → its ≡ Observing s w → leaveFrom its (getD (b .machines) i noMachine .key) ds b ≡ finished 0 ds (giveUpSeat split (s .0) x (takeOff (s .0) short x b))
   unfolding leaveFrom
-  from-unseated ds = go its
+  from-watch ds s w e = rw (e, ← k)
+
+  -- neither seated nor observing, by the tags of the other places
+  pub from-elsewhere : (ds : List ℕ) → OneOf (0 ∷ 3 ∷ 4 ∷ []) (tagOf the-type its) → leaveFrom its (getD (b .machines) i noMachine .key) ds b ≡ finished 0 ds (place (getD (b .machines) i noMachine .key) short b)
+  unfolding leaveFrom
+  from-elsewhere ds = go its
     where
-      go : (p : Place) → OneOf (0 ∷ 2 ∷ 3 ∷ 4 ∷ []) (tagOf the-type p) → leaveFrom p (getD (b .machines) i noMachine .key) ds b ≡ finished 0 ds (unseated p (getD (b .machines) i noMachine .key) b)
+      go : (p : Place) → OneOf (0 ∷ 3 ∷ 4 ∷ []) (tagOf the-type p) → leaveFrom p (getD (b .machines) i noMachine .key) ds b ≡ finished 0 ds (place (getD (b .machines) i noMachine .key) short b)
       go Pooled o = refl
-      go (Seated s r w) o = absurd (no-seat-tag o)
-      go (Observing s w) o = refl
+      go (Seated s r w) o = absurd (other-tag 1 (omega arith) (omega arith) o)
+      go (Observing s w) o = absurd (other-tag 2 (omega arith) (omega arith) o)
       go Short o = refl
       go (Other m) o = refl
-
--- neither seated nor observing, or seated: short where it stands
-pub stays-short : (p : Place) (x : Id) (b : Board) → OneOf (0 ∷ 1 ∷ 3 ∷ 4 ∷ []) (tagOf the-type p) → unseated p x b ≡ place x short b
-stays-short Pooled x b o = refl
-stays-short (Seated s r w) x b o = refl
-stays-short (Observing s w) x b o = absurd (no-watch-tag o)
-stays-short Short x b o = refl
-stays-short (Other m) x b o = refl

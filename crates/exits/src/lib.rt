@@ -24,7 +24,6 @@ ghost use Rattle.rules.specs.Places.{isCarved, leaveSeat, leaveFromSeat, leaveF
 ghost use Rattle.board.specs.Layout.{boardSize};
 ghost use Rattle.board.specs.Held.{Holds, noMachine};
 ghost use Rattle.pool.specs.Told.{TellsTurn};
-ghost use Rattle.exits.specs.Left.{Replaces, LeavesEmpty, unseated};
 
 // A scheduled split stands there, and leaves no seat to refill.
 fn is_carved(ws: &[u64], shard: ShardId) -> bool
@@ -59,21 +58,6 @@ fn leave_watch(ws: &mut [u64], shard: ShardId, id: ValidatorId)
     moves::give_up_seat(ws, false, shard, id);
 }
 
-// Its seat goes to the machine at row k, where there is room for that one.
-fn replace(ws: &mut [u64], shard: ShardId, id: ValidatorId, k: usize) -> bool
-    requires { ⌜ (length (now ws) ≡ boardSize) × (k < mostMachines) ⌝ }
-    ensures { λ r. ⌜ ((b : Board) → Holds (now (ws .entry)) b → wellFormed b ≡ true → k < length (b .machines) →
-        Replaces (shard .0) (id .0) (getD (b .machines) k noMachine .key) b (now (ws .exit)) r) ⌝ }
-{
-    let m = machines::at(ws, k);
-    if pool::may_replace(ws, shard, id, m.id) {
-        leave_seat(ws, shard, id);
-        pool::seat_drawn(ws, shard, k);
-        return true;
-    }
-    false
-}
-
 // Its seat goes to one drawn from the pool; the draw and the room are asked on the board as it stands.
 fn refill(ws: &mut [u64], shard: ShardId, id: ValidatorId, draws: &[u64], at: Reader) -> Turned
     requires { ⌜ (length (now ws) ≡ boardSize) × (at .at ≤ length (now draws)) ⌝ }
@@ -83,7 +67,10 @@ fn refill(ws: &mut [u64], shard: ShardId, id: ValidatorId, draws: &[u64], at: Re
     let found = pool::draw(ws, draws, at);
     match found {
         Found::Row(k, left) => {
-            if replace(ws, shard, id, k) {
+            let m = machines::at(ws, k);
+            if pool::may_replace(ws, shard, id, m.id) {
+                leave_seat(ws, shard, id);
+                pool::seat_drawn(ws, shard, k);
                 return Turned::Done(1, left);
             }
             Turned::Refused(Answer::NoRoom)
@@ -97,45 +84,23 @@ fn refill(ws: &mut [u64], shard: ShardId, id: ValidatorId, draws: &[u64], at: Re
     }
 }
 
-// Off a seat that stays empty: of a party of a rotation, which goes with it, or on a shard that is carved. Whether it is one.
-fn leave_empty(ws: &mut [u64], shard: ShardId, id: ValidatorId) -> bool
-    requires { ⌜ length (now ws) ≡ boardSize ⌝ }
-    ensures { λ r. ⌜ ((b : Board) → Holds (now (ws .entry)) b → wellFormed b ≡ true → LeavesEmpty (shard .0) (id .0) b (now (ws .exit)) r) ⌝ }
-{
-    let k = rotations::first_party(ws, shard, id);
-    if k < rotations::count(ws) {
-        leave_seat(ws, shard, id);
-        rotations::close(ws, k);
-        return true;
-    }
-    if is_carved(ws, shard) {
-        leave_seat(ws, shard, id);
-        return true;
-    }
-    false
-}
-
+// Off a seat: nobody is drawn for a party of a rotation, which goes with it, nor onto a shard that is carved.
 fn exit_seat(ws: &mut [u64], shard: ShardId, id: ValidatorId, draws: &[u64], at: Reader) -> Turned
     requires { ⌜ (length (now ws) ≡ boardSize) × (at .at ≤ length (now draws)) ⌝ }
     ensures { λ r. ⌜ ((b : Board) → Holds (now (ws .entry)) b → wellFormed b ≡ true → says isPooled b (id .0) ≡ false →
         TellsTurn (now (draws .entry)) (now (ws .exit)) b (leaveFromSeat (shard .0) (id .0) (drop (at .at) (now (draws .entry))) b) r) ⌝ }
 {
-    if leave_empty(ws, shard, id) {
+    let k = rotations::first_party(ws, shard, id);
+    if k < rotations::count(ws) {
+        leave_seat(ws, shard, id);
+        rotations::close(ws, k);
+        return Turned::Done(0, at);
+    }
+    if is_carved(ws, shard) {
+        leave_seat(ws, shard, id);
         return Turned::Done(0, at);
     }
     refill(ws, shard, id, draws, at)
-}
-
-// From any place but a seat: off its watch, or short where it stands.
-fn exit_unseated(ws: &mut [u64], i: usize, id: ValidatorId, p: Place)
-    requires { ⌜ (length (now ws) ≡ boardSize) × (i < mostMachines) ⌝ }
-    ensures { λ _. ⌜ ((b : Board) → Holds (now (ws .entry)) b → wellFormed b ≡ true → i < length (b .machines) → getD (b .machines) i noMachine .key ≡ id .0 →
-        Holds (now (ws .exit)) (unseated p (id .0) b)) ⌝ }
-{
-    match p {
-        Place::Observing { shard, .. } => leave_watch(ws, shard, id),
-        _ => pool::put_place(ws, i, p.short()),
-    }
 }
 
 // The machine at row i leaves its place, short of stake.
@@ -149,8 +114,12 @@ pub fn exit_placement(ws: &mut [u64], i: usize, draws: &[u64], at: Reader) -> Tu
     let p = m.place;
     match p {
         Place::Seated { shard, .. } => exit_seat(ws, shard, id, draws, at),
+        Place::Observing { shard, .. } => {
+            leave_watch(ws, shard, id);
+            Turned::Done(0, at)
+        }
         _ => {
-            exit_unseated(ws, i, id, p);
+            pool::put_place(ws, i, p.short());
             Turned::Done(0, at)
         }
     }
