@@ -21,7 +21,7 @@ use Rattle.board.specs.Held.{roomyCommittee, roomyReshape, Fits}
 use Rattle.board.proofs.Widths.{machine-wide, id-wide, committee-wide, boundary-wide, rotation-wide, seat-wide, head-wide, reshape-wide, settings-wide}
 use Rattle.packing.specs.declared.Nested.{Nested}
 use Rattle.packing.specs.declared.Nested.the-variants.{Committees, Reshapes}
-use Rattle.packing.specs.Packed.{between, countOf, flat, committee, reshape, widthOf, rowOf, rowsOf, nested, packed}
+use Rattle.packing.specs.Packed.{between, countOf, flat, committee, reshape, widthOf, rowOf, rowsOf, nested, fromBounds, packed}
 
 -- what follows a part that is known, and the part itself
 after : (a k e : ℕ) (t A B : List ℕ) → drop a t ≡ A ++ B → length A ≡ k → a + k ≡ e → drop e t ≡ B
@@ -111,7 +111,7 @@ reshape-packs e h =
 
 -- THE SNAPSHOT'S WORDS are the board's words without their room
 pub packed-encode : (b : Board) → Fits b → packed (encode b) ≡ wordsOf b
-unfolding packed encode wordsOf
+unfolding packed fromBounds encode wordsOf
 packed-encode b q =
     let S = settingsTable (b .settings) in
     let M = machineTable (b .machines) in

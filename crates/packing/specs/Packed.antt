@@ -44,11 +44,14 @@ rowsOf k (suc n) t = rowOf k (take (widthOf k) t) ++ rowsOf k n (drop (widthOf k
 unfoldable pub nested : Nested → ℕ → List ℕ → List ℕ
 nested k cap t = take 1 t ++ rowsOf k (countOf cap t) (drop 1 t)
 
+-- the tables from the boundaries on
+unfoldable pub fromBounds : List ℕ → List ℕ
+fromBounds t =
+    flat boundaryWidth mostBounds (between boundsAt rotationsAt t)
+    ++ (flat rotationWidth mostRotations (between rotationsAt reshapesAt t) ++ nested Reshapes mostReshapes (between reshapesAt boardSize t))
+
 -- the settings' count and numbers, then the tables
 unfoldable pub packed : List ℕ → List ℕ
 packed t =
     take 7 t
-    ++ (flat machineWidth mostMachines (between machinesAt committeesAt t)
-    ++ (nested Committees mostCommittees (between committeesAt boundsAt t)
-    ++ (flat boundaryWidth mostBounds (between boundsAt rotationsAt t)
-    ++ (flat rotationWidth mostRotations (between rotationsAt reshapesAt t) ++ nested Reshapes mostReshapes (between reshapesAt boardSize t)))))
+    ++ (flat machineWidth mostMachines (between machinesAt committeesAt t) ++ (nested Committees mostCommittees (between committeesAt boundsAt t) ++ fromBounds t))

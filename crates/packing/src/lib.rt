@@ -26,10 +26,10 @@ use board::layout::SEATS_AT;
 use board::layout::SETTINGS_END;
 use bytes_words::put_words;
 ghost use mathlib.Core.Path.{_≡_};
-ghost use Prim.Native.Nat.{_+_, _*_, _≤_};
+ghost use Prim.Native.Nat.{_+_, _-_, _*_, _≤_};
 ghost use lib.ListN.{length};
-ghost use Rattle.board.specs.Layout.{committeeWidth, reshapeWidth, boardSize};
-ghost use Rattle.packing.specs.Packed.{countOf, flat, committee, reshape, widthOf, rowOf, nested, packed};
+ghost use Rattle.board.specs.Layout.{committeeWidth, reshapeWidth, boundsAt, boardSize};
+ghost use Rattle.packing.specs.Packed.{countOf, flat, committee, reshape, widthOf, rowOf, nested, fromBounds, packed};
 ghost use Rattle.packing.specs.Put.{Put};
 
 // ---- A table of rows without lists
@@ -171,6 +171,21 @@ fn put_rows(k: Nested, cap: usize, t: &[u64], out: &mut [u8], at: usize) -> usiz
 
 // ---- The board
 
+// Of the tables from the boundaries on.
+fn size_from_bounds(t: &[u64]) -> usize
+    requires { ⌜ length (now t) ≡ boardSize ⌝ }
+    ensures { λ r. ⌜ (r ≡ length (fromBounds (now (t .entry)))) × (r ≤ boardSize - boundsAt) ⌝ }
+{
+    let b = flat_size(BOUNDARY_WIDTH, MOST_BOUNDS, &t[BOUNDS_AT..ROTATIONS_AT]);
+    let o = flat_size(
+        ROTATION_WIDTH,
+        MOST_ROTATIONS,
+        &t[ROTATIONS_AT..RESHAPES_AT],
+    );
+    let r = rows_size(Nested::Reshapes, MOST_RESHAPES, &t[RESHAPES_AT..BOARD_SIZE]);
+    b + o + r
+}
+
 pub fn packed_size(t: &[u64]) -> usize
     requires { ⌜ length (now t) ≡ boardSize ⌝ }
     ensures { λ r. ⌜ (r ≡ length (packed (now (t .entry)))) × (r ≤ boardSize) ⌝ }
@@ -181,14 +196,31 @@ pub fn packed_size(t: &[u64]) -> usize
         MOST_COMMITTEES,
         &t[COMMITTEES_AT..BOUNDS_AT],
     );
-    let b = flat_size(BOUNDARY_WIDTH, MOST_BOUNDS, &t[BOUNDS_AT..ROTATIONS_AT]);
-    let o = flat_size(
+    let s = size_from_bounds(t);
+    SETTINGS_END + m + c + s
+}
+
+// The tables from the boundaries on.
+fn put_from_bounds(t: &[u64], out: &mut [u8], at: usize) -> usize
+    requires { ⌜ (length (now t) ≡ boardSize) × (at + length (fromBounds (now t)) * 8 ≤ length (now out)) ⌝ }
+    ensures { λ r. ⌜ Put (fromBounds (now (t .entry))) at (now (out .entry)) (now (out .exit)) r ⌝ }
+{
+    let b = put_flat(
+        BOUNDARY_WIDTH,
+        MOST_BOUNDS,
+        &t[BOUNDS_AT..ROTATIONS_AT],
+        out,
+        at,
+    );
+    let o = put_flat(
         ROTATION_WIDTH,
         MOST_ROTATIONS,
         &t[ROTATIONS_AT..RESHAPES_AT],
+        out,
+        b,
     );
-    let r = rows_size(Nested::Reshapes, MOST_RESHAPES, &t[RESHAPES_AT..BOARD_SIZE]);
-    SETTINGS_END + m + c + b + o + r
+    let reshapes = Nested::Reshapes;
+    put_rows(reshapes, MOST_RESHAPES, &t[RESHAPES_AT..BOARD_SIZE], out, o)
 }
 
 pub fn put_board(t: &[u64], out: &mut [u8]) -> usize
@@ -210,20 +242,5 @@ pub fn put_board(t: &[u64], out: &mut [u8]) -> usize
         out,
         m,
     );
-    let b = put_flat(
-        BOUNDARY_WIDTH,
-        MOST_BOUNDS,
-        &t[BOUNDS_AT..ROTATIONS_AT],
-        out,
-        c,
-    );
-    let o = put_flat(
-        ROTATION_WIDTH,
-        MOST_ROTATIONS,
-        &t[ROTATIONS_AT..RESHAPES_AT],
-        out,
-        b,
-    );
-    let reshapes = Nested::Reshapes;
-    put_rows(reshapes, MOST_RESHAPES, &t[RESHAPES_AT..BOARD_SIZE], out, o)
+    put_from_bounds(t, out, c)
 }

@@ -16,8 +16,8 @@ use Rattle.board.proofs.One.{every-yes, well-formed-fits}
 use Rattle.row_tests.specs.declared.RowKind.the-variants.{Machines, Committees, Boundaries, Rotations, Reshapes}
 use Rattle.unpacking.specs.AsWords.{AsWords}
 use Rattle.unpacking.specs.Parts.{PartRead, plain, Wide}
-use Rattle.unpacking.specs.Unpacked.{TableRead, SettingsRead}
-use Rattle.unpacking.proofs.Parts.{follows, lent-words, filled-none, filled-next, filled-all}
+use Rattle.unpacking.specs.Unpacked.{TableRead, SettingsRead, FromBoundsRead}
+use Rattle.unpacking.proofs.Parts.{follows, lent-words, filled-none, filled-kept, filled-next, filled-all, filled-done, filled-past}
 
 -- ---- the settings
 
@@ -45,67 +45,76 @@ settings-read ws out y z r l ly ez q =
 
 -- ---- the board
 
-module _ {bytes s m c d o r : List ℕ} {atM atC atB atO atR end : ℕ} (rs : (ws : List ℕ) → AsWords bytes ws → SettingsRead ws s atM)
-    (rm : (ws : List ℕ) → AsWords bytes ws → TableRead Machines mostMachines ws m atM atC)
-    (rc : (ws : List ℕ) → AsWords bytes ws → TableRead Committees mostCommittees ws c atC atB)
-    (rb : (ws : List ℕ) → AsWords bytes ws → TableRead Boundaries mostBounds ws d atB atO)
+-- a section ends within words that are as many as those lent
+pub within : {e m n : ℕ} → m ≡ n → boardSize ≤ n → e ≤ boardSize → e ≤ m
+within l room h = omega arith
+
+-- each section is read where the one before it ends
+module _ {bytes d o r : List ℕ} {atB atO atR end : ℕ} (rb : (ws : List ℕ) → AsWords bytes ws → TableRead Boundaries mostBounds ws d atB atO)
     (ro : (ws : List ℕ) → AsWords bytes ws → TableRead Rotations mostRotations ws o atO atR)
-    (rr : (ws : List ℕ) → AsWords bytes ws → TableRead Reshapes mostReshapes ws r atR end) where
-  -- each section is read where the one before it ends
-  sections : (b : Board) → bytes ≡ snapshotOf b → wellFormed b ≡ true → ((((s ++ m) ++ c) ++ d) ++ o) ++ r ≡ encode b
+    (rr : (ws : List ℕ) → AsWords bytes ws → TableRead Reshapes mostReshapes ws r atR end) (out : List ℕ) (l : boardSize ≤ length out) where
+  -- the words when each section is written
+  abbrev bounds1 : List ℕ
+  bounds1 = putMid boundsAt (rotationsAt - boundsAt) out d
+
+  abbrev bounds2 : List ℕ
+  bounds2 = putMid rotationsAt (reshapesAt - rotationsAt) bounds1 o
+
+  pub bounds-read : length d ≡ length (take (rotationsAt - boundsAt) (drop boundsAt out)) → length o ≡ length (take (reshapesAt - rotationsAt) (drop rotationsAt bounds1))
+      → length r ≡ length (take (boardSize - reshapesAt) (drop reshapesAt bounds2))
+      → (ws : List ℕ) → AsWords bytes ws → FromBoundsRead ws out (putMid reshapesAt (boardSize - reshapesAt) bounds2 r) atB
+  bounds-read ld lo lr ws h = record {
+    whole = λ b q db.
+        let B = section boundaryWords (b .bounds) in
+        let O = section rotationWords (b .rotations) in
+        let R = section reshapeWords (b .reshapes) in
+        let vb = rb ws h .whole (b .bounds) (O ++ R) (q .bounds) (every-yes (b .bounds)) db in
+        let dp : drop atO ws ≡ O ++ R = follows atB atO ws B (O ++ R) db (vb .1) in
+        let vo = ro ws h .whole (b .rotations) R (q .rotations) (every-yes (b .rotations)) dp in
+        let dr : drop atR ws ≡ R ++ [] = follows atO atR ws O R dp (vo .1) ∙ sym (append-nil R) in
+        let vr = rr ws h .whole (b .reshapes) [] (q .reshapes) (q .lists) dr in
+        let fd = filled-next rotationsAt d (filled-kept boundsAt out (omega arith)) (omega arith) (omega arith) ld in
+        let fo = filled-next reshapesAt o fd (omega arith) (omega arith) lo in
+        let fr = filled-next boardSize r fo (omega arith) (omega arith) lr in
+        fr .words ∙ three (take boundsAt out) (drop boardSize out) (vb .0) (vo .0) (vr .0);
+  }
+    where
+      three : (k e : List ℕ) {a b c x y z : List ℕ} → a ≡ x → b ≡ y → c ≡ z → (((k ++ a) ++ b) ++ c) ++ e ≡ k ++ ((x ++ (y ++ z)) ++ e)
+      three k e p q s = rw (p, q, s) (simp append-assoc)
+
+module _ {bytes s m c : List ℕ} {atM atC atB : ℕ} (rs : (ws : List ℕ) → AsWords bytes ws → SettingsRead ws s atM)
+    (rm : (ws : List ℕ) → AsWords bytes ws → TableRead Machines mostMachines ws m atM atC)
+    (rc : (ws : List ℕ) → AsWords bytes ws → TableRead Committees mostCommittees ws c atC atB) (out : List ℕ) (l : boardSize ≤ length out) where
+  abbrev words1 : List ℕ
+  words1 = putMid 0 machinesAt out s
+
+  abbrev words2 : List ℕ
+  words2 = putMid machinesAt (committeesAt - machinesAt) words1 m
+
+  abbrev words3 : List ℕ
+  words3 = putMid committeesAt (boundsAt - committeesAt) words2 c
+
+  pub board-read : length s ≡ length (take machinesAt out) → length m ≡ length (take (committeesAt - machinesAt) (drop machinesAt words1))
+      → length c ≡ length (take (boundsAt - committeesAt) (drop committeesAt words2)) → (t : List ℕ) → ((ws : List ℕ) → AsWords bytes ws → FromBoundsRead ws words3 t atB)
+      → (b : Board) → bytes ≡ snapshotOf b → wellFormed b ≡ true → t ≡ encode b ++ drop boardSize out
   unfolding wordsOf snapshotOf encode
-  sections b e good =
+  board-read ls lm lc t rt b e good =
       let ws = wordsOf b in
       let h : AsWords bytes ws = record { bytes = e; words = words-are-words b good } in
       let q = well-formed-fits b good in
       let S = settingsWords (b .settings) in
       let M = section machineWords (b .machines) in
       let C = section committeeWords (b .committees) in
-      let B = section boundaryWords (b .bounds) in
-      let O = section rotationWords (b .rotations) in
-      let R = section reshapeWords (b .reshapes) in
-      let vs = rs ws h .whole (b .settings) (M ++ (C ++ (B ++ (O ++ R)))) refl in
-      let dm : drop atM ws ≡ M ++ (C ++ (B ++ (O ++ R))) = follows 0 atM ws S (M ++ (C ++ (B ++ (O ++ R)))) refl (vs .1 ∙ omega arith) in
-      let vm = rm ws h .whole (b .machines) (C ++ (B ++ (O ++ R))) (q .machines) (every-yes (b .machines)) dm in
-      let dc : drop atC ws ≡ C ++ (B ++ (O ++ R)) = follows atM atC ws M (C ++ (B ++ (O ++ R))) dm (vm .1) in
-      let vc = rc ws h .whole (b .committees) (B ++ (O ++ R)) (q .committees) (q .members) dc in
-      let db : drop atB ws ≡ B ++ (O ++ R) = follows atC atB ws C (B ++ (O ++ R)) dc (vc .1) in
-      let vb = rb ws h .whole (b .bounds) (O ++ R) (q .bounds) (every-yes (b .bounds)) db in
-      let dp : drop atO ws ≡ O ++ R = follows atB atO ws B (O ++ R) db (vb .1) in
-      let vo = ro ws h .whole (b .rotations) R (q .rotations) (every-yes (b .rotations)) dp in
-      let dr : drop atR ws ≡ R ++ [] = follows atO atR ws O R dp (vo .1) ∙ sym (append-nil R) in
-      let vr = rr ws h .whole (b .reshapes) [] (q .reshapes) (q .lists) dr in
-      six (vs .0) (vm .0) (vc .0) (vb .0) (vo .0) (vr .0)
+      let T = section boundaryWords (b .bounds) ++ (section rotationWords (b .rotations) ++ section reshapeWords (b .reshapes)) in
+      let vs = rs ws h .whole (b .settings) (M ++ (C ++ T)) refl in
+      let dm : drop atM ws ≡ M ++ (C ++ T) = follows 0 atM ws S (M ++ (C ++ T)) refl (vs .1 ∙ omega arith) in
+      let vm = rm ws h .whole (b .machines) (C ++ T) (q .machines) (every-yes (b .machines)) dm in
+      let dc : drop atC ws ≡ C ++ T = follows atM atC ws M (C ++ T) dm (vm .1) in
+      let vc = rc ws h .whole (b .committees) T (q .committees) (q .members) dc in
+      let fs = filled-next machinesAt s (filled-none out) (omega arith) (omega arith) ls in
+      let fm = filled-next committeesAt m fs (omega arith) (omega arith) lm in
+      let fc = filled-next boundsAt c fm (omega arith) (omega arith) lc in
+      rt ws h .whole b q (follows atC atB ws C T dc (vc .1)) ∙ joined _ (filled-done fc) (vs .0) (vm .0) (vc .0) (filled-past fc (boardSize - boundsAt))
     where
-      six : {a b c d e f u v w x y z : List ℕ} → a ≡ u → b ≡ v → c ≡ w → d ≡ x → e ≡ y → f ≡ z → ((((a ++ b) ++ c) ++ d) ++ e) ++ f ≡ u ++ (v ++ (w ++ (x ++ (y ++ z))))
-      six p q r s t o = rw (p, q, r, s, t, o) (simp append-assoc)
-
-  module _ (out : List ℕ) (l : boardSize ≤ length out) where
-    -- the words when each section is written
-    abbrev words1 : List ℕ
-    words1 = putMid 0 machinesAt out s
-
-    abbrev words2 : List ℕ
-    words2 = putMid machinesAt (committeesAt - machinesAt) words1 m
-
-    abbrev words3 : List ℕ
-    words3 = putMid committeesAt (boundsAt - committeesAt) words2 c
-
-    abbrev words4 : List ℕ
-    words4 = putMid boundsAt (rotationsAt - boundsAt) words3 d
-
-    abbrev words5 : List ℕ
-    words5 = putMid rotationsAt (reshapesAt - rotationsAt) words4 o
-
-    pub board-read : length s ≡ length (take machinesAt out) → length m ≡ length (take (committeesAt - machinesAt) (drop machinesAt words1))
-        → length c ≡ length (take (boundsAt - committeesAt) (drop committeesAt words2)) → length d ≡ length (take (rotationsAt - boundsAt) (drop boundsAt words3))
-        → length o ≡ length (take (reshapesAt - rotationsAt) (drop rotationsAt words4)) → length r ≡ length (take (boardSize - reshapesAt) (drop reshapesAt words5))
-        → (b : Board) → bytes ≡ snapshotOf b → wellFormed b ≡ true → putMid reshapesAt (boardSize - reshapesAt) words5 r ≡ encode b ++ drop boardSize out
-    board-read ls lm lc ld lo lr b e good =
-        let fs = filled-next machinesAt s (filled-none out) (omega arith) (omega arith) ls in
-        let fm = filled-next committeesAt m fs (omega arith) (omega arith) lm in
-        let fc = filled-next boundsAt c fm (omega arith) (omega arith) lc in
-        let fd = filled-next rotationsAt d fc (omega arith) (omega arith) ld in
-        let fo = filled-next reshapesAt o fd (omega arith) (omega arith) lo in
-        let fr = filled-next boardSize r fo (omega arith) (omega arith) lr in
-        fr .words ∙ ap (λ (u : List ℕ). u ++ drop boardSize out) (sections b e good)
+      joined : (v : List ℕ) {k a b c x y z u w : List ℕ} → k ≡ (a ++ b) ++ c → a ≡ x → b ≡ y → c ≡ z → u ≡ w → k ++ (v ++ u) ≡ (x ++ (y ++ (z ++ v))) ++ w
+      joined v p q r s o = rw (p, q, r, s, o) (simp append-assoc)

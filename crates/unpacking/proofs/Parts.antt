@@ -194,3 +194,14 @@ filled-next {out} {a} {xs} {done} e ys f m h l =
 
 pub filled-all : {out : List ℕ} {a : ℕ} {xs done : List ℕ} → Filled out a xs done → length out ≡ a → xs ≡ done
 filled-all {out} {a} {done} f h = f .words ∙ ap (λ (u : List ℕ). done ++ u) (drop-of-length-le out {i = a} (omega arith)) ∙ append-nil done
+
+-- nothing is written yet, and the first a words stand
+pub filled-kept : (a : ℕ) (out : List ℕ) → a ≤ length out → Filled out a out (take a out)
+filled-kept a out h = record { words = sym (take-append-drop a out); size = length-take-le a out h }
+
+module _ {out : List ℕ} {a : ℕ} {xs done : List ℕ} (f : Filled out a xs done) where
+  pub filled-done : take a xs ≡ done
+  filled-done = ap (take a) (f .words) ∙ take-at done (drop a out) a (f .size)
+
+  pub filled-past : (k : ℕ) → drop (a + k) xs ≡ drop (a + k) out
+  filled-past k = sym (drop-drop k a xs) ∙ ap (drop k) (ap (drop a) (f .words) ∙ drop-at done (drop a out) a (f .size)) ∙ drop-drop k a out

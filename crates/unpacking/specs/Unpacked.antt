@@ -3,16 +3,16 @@ use Prim.Native.Nat.{ℕ, _+_, _≤_, _<_}
 use mathlib.Core.Path.{_≡_}
 use mathlib.Core.List.{List, _++_}
 use mathlib.Core.Bool.{Bool, true, false}
-use lib.ListN.{length, drop}
+use lib.ListN.{length, take, drop}
 use Rattle.types.specs.Numbers.{Id}
 use Rattle.types.specs.declared.Place.{Place}
 use Rattle.rules.specs.Lists.{every}
 use Rattle.rules.specs.Table.{Entry}
-use Rattle.rules.specs.Board.{Settings, Boundary, Rotation, Reshape, mostMachines, mostCommittees, mostBounds, mostRotations, mostReshapes}
+use Rattle.rules.specs.Board.{Settings, Boundary, Rotation, Reshape, Board, mostMachines, mostCommittees, mostBounds, mostRotations, mostReshapes}
 use Rattle.rules.specs.Snapshot.{rowsWords, section, settingsWords, machineWords, committeeWords, boundaryWords, rotationWords, reshapeWords}
 use Rattle.tables.specs.Rows.{table}
-use Rattle.board.specs.Layout.{committeeRow, reshapeRow, settingsTable}
-use Rattle.board.specs.Held.{roomyCommittee, roomyReshape}
+use Rattle.board.specs.Layout.{boundsAt, boardSize, committeeRow, reshapeRow, settingsTable, boundaryTable, rotationTable, reshapeTable}
+use Rattle.board.specs.Held.{roomyCommittee, roomyReshape, Fits}
 use Rattle.row_tests.specs.declared.RowKind.{RowKind}
 use Rattle.row_tests.specs.declared.RowKind.the-variants.{Machines, Committees, Boundaries, Rotations, Reshapes}
 use Rattle.row_tests.specs.Rows.{widthOf}
@@ -97,3 +97,8 @@ pub record TableRead (k : RowKind) (cap : ℕ) (ws t : List ℕ) (at r : ℕ) : 
 -- the same of the settings, which stand first
 pub record SettingsRead (ws t : List ℕ) (r : ℕ) : Type 0 where
   pub whole : (s : Settings) (rest : List ℕ) → ws ≡ settingsWords s ++ rest → (t ≡ settingsTable s) × (r ≡ length (settingsWords s))
+
+-- what reading the tables from the boundaries on at word `at` leaves of a board's words u
+pub record FromBoundsRead (ws u t : List ℕ) (at : ℕ) : Type 0 where
+  pub whole : (b : Board) → Fits b → drop at ws ≡ section boundaryWords (b .bounds) ++ (section rotationWords (b .rotations) ++ section reshapeWords (b .reshapes))
+      → t ≡ take boundsAt u ++ ((boundaryTable (b .bounds) ++ (rotationTable (b .rotations) ++ reshapeTable (b .reshapes))) ++ drop boardSize u)

@@ -41,7 +41,7 @@ ghost use Rattle.packing.specs.Packed.{flat, committee, reshape};
 ghost use Rattle.row_tests.specs.Rows.{widthOf};
 ghost use Rattle.unpacking.specs.AsWords.{AsWords};
 ghost use Rattle.unpacking.specs.Parts.{PartRead, plain, Wide, Listed};
-ghost use Rattle.unpacking.specs.Unpacked.{mostOf, isPlain, GoodRow, packedRow, RowRead, RowsRead, TableRead, SettingsRead};
+ghost use Rattle.unpacking.specs.Unpacked.{mostOf, isPlain, GoodRow, packedRow, RowRead, RowsRead, TableRead, SettingsRead, FromBoundsRead};
 
 // ---- Words
 
@@ -266,6 +266,31 @@ fn unpack_settings(bytes: &[u8], out: &mut [u64]) -> usize
     next
 }
 
+// The tables from the boundaries on; the words around them stay.
+fn unpack_from_bounds(bytes: &[u8], at: usize, board: &mut [u64])
+    requires { ⌜ boardSize ≤ length (now board) ⌝ }
+    ensures { λ _. ⌜ ((ws : List ℕ) → AsWords (now (bytes .entry)) ws → FromBoundsRead ws (now (board .entry)) (now (board .exit)) at) ⌝ }
+{
+    let rotations = unpack_section(
+        RowKind::Boundaries,
+        bytes,
+        at,
+        &mut board[BOUNDS_AT..ROTATIONS_AT],
+    );
+    let reshapes = unpack_section(
+        RowKind::Rotations,
+        bytes,
+        rotations,
+        &mut board[ROTATIONS_AT..RESHAPES_AT],
+    );
+    unpack_section(
+        RowKind::Reshapes,
+        bytes,
+        reshapes,
+        &mut board[RESHAPES_AT..BOARD_SIZE],
+    );
+}
+
 // The words of the board whose snapshot the bytes are; those past it stay.
 pub fn unpack_board(bytes: &[u8], board: &mut [u64])
     requires { ⌜ boardSize ≤ length (now board) ⌝ }
@@ -284,22 +309,5 @@ pub fn unpack_board(bytes: &[u8], board: &mut [u64])
         committees,
         &mut board[COMMITTEES_AT..BOUNDS_AT],
     );
-    let rotations = unpack_section(
-        RowKind::Boundaries,
-        bytes,
-        bounds,
-        &mut board[BOUNDS_AT..ROTATIONS_AT],
-    );
-    let reshapes = unpack_section(
-        RowKind::Rotations,
-        bytes,
-        rotations,
-        &mut board[ROTATIONS_AT..RESHAPES_AT],
-    );
-    unpack_section(
-        RowKind::Reshapes,
-        bytes,
-        reshapes,
-        &mut board[RESHAPES_AT..BOARD_SIZE],
-    );
+    unpack_from_bounds(bytes, bounds, board);
 }

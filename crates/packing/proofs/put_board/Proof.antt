@@ -1,13 +1,12 @@
-use native.Mathlib.Omega.{arith}
+use lib.Dec.{lit≤}
 use lib.ListN.{take}
-use Rattle.rules.specs.Board.{mostMachines, mostCommittees, mostBounds, mostRotations}
-use Rattle.board.specs.Layout.{machineWidth, boundaryWidth, rotationWidth, machinesAt, committeesAt, boundsAt, rotationsAt, reshapesAt, boardSize}
+use Rattle.rules.specs.Board.{mostMachines, mostCommittees}
+use Rattle.board.specs.Layout.{machineWidth, machinesAt, committeesAt, boundsAt}
 use Rattle.packing.specs.declared.Nested.the-variants.{Committees}
 use Rattle.packing.specs.Packed.{between, flat, nested}
-use Rattle.packing.proofs.Sizes.{between-length}
 use Rattle.packing.proofs.Lefts.{room, next, last-room, last}
 use Rattle.packing.proofs.Puts.{words-put}
-use Rattle.packing.proofs.Sums.{packed-start}
+use Rattle.packing.proofs.Sums.{packed-start, within, machines-long, committees-long}
 use borrow.Author.Needs.{needs}
 use Rattle.packing.proofs.put_board.Statement.{statement}
 use Rattle.packing.proofs.put_board.Tie as tie
@@ -21,79 +20,47 @@ put-flat-requires : tie.Need-put-flat-requires
 put-flat-requires c κs = let t = c .before .before .before .before .before .before .before .before .before .args .t .now in
     let l0 = packed-start t (c .before .before .before .before .before .before .before .before .before .args .out .now) (c .before .before .before .before .before .before .before .before .before .pre .1) in
     let l1 = next (take 7 t) _ l0 (words-put (c .before .before .before .before .put-words .ensures)) in
-    (between-length machinesAt committeesAt t (omega arith), room (flat machineWidth mostMachines (between machinesAt committeesAt t)) _ l1)
+    (machines-long t (c .before .before .before .before .before .before .before .before .before .pre .0), room (flat machineWidth mostMachines (between machinesAt committeesAt t)) _ l1)
 
 put-rows-requires : tie.Need-put-rows-requires
 put-rows-requires c κs = let t = c .before .before .before .before .before .before .before .before .before .before .before .before .before .before .args .t .now in
     let l0 = packed-start t (c .before .before .before .before .before .before .before .before .before .before .before .before .before .before .args .out .now) (c .before .before .before .before .before .before .before .before .before .before .before .before .before .before .pre .1) in
     let l1 = next (take 7 t) _ l0 (words-put (c .before .before .before .before .before .before .before .before .before .put-words .ensures)) in
     let l2 = next (flat machineWidth mostMachines (between machinesAt committeesAt t)) _ l1 (c .before .before .before .before .put-flat .ensures) in
-    (between-length committeesAt boundsAt t (omega arith), room (nested Committees mostCommittees (between committeesAt boundsAt t)) _ l2)
+    (committees-long t (c .before .before .before .before .before .before .before .before .before .before .before .before .before .before .pre .0), room (nested Committees mostCommittees (between committeesAt boundsAt t)) _ l2)
 
-put-flat-requires-2 : tie.Need-put-flat-requires-2
-put-flat-requires-2 c κs = let t = c .before .before .before .before .before .before .before .before .before .before .before .before .before .before .before .before .before .before .before .args .t .now in
-    let l0 = packed-start t (c .before .before .before .before .before .before .before .before .before .before .before .before .before .before .before .before .before .before .before .args .out .now) (c .before .before .before .before .before .before .before .before .before .before .before .before .before .before .before .before .before .before .before .pre .1) in
-    let l1 = next (take 7 t) _ l0 (words-put (c .before .before .before .before .before .before .before .before .before .before .before .before .before .before .put-words .ensures)) in
-    let l2 = next (flat machineWidth mostMachines (between machinesAt committeesAt t)) _ l1 (c .before .before .before .before .before .before .before .before .before .put-flat .ensures) in
-    let l3 = next (nested Committees mostCommittees (between committeesAt boundsAt t)) _ l2 (c .before .before .before .before .put-rows .ensures) in
-    (between-length boundsAt rotationsAt t (omega arith), room (flat boundaryWidth mostBounds (between boundsAt rotationsAt t)) _ l3)
-
-put-flat-requires-3 : tie.Need-put-flat-requires-3
-put-flat-requires-3 c κs = let t = c .before .before .before .before .before .before .before .before .before .before .before .before .before .before .before .before .before .before .before .before .before .before .before .before .args .t .now in
-    let l0 = packed-start t (c .before .before .before .before .before .before .before .before .before .before .before .before .before .before .before .before .before .before .before .before .before .before .before .before .args .out .now) (c .before .before .before .before .before .before .before .before .before .before .before .before .before .before .before .before .before .before .before .before .before .before .before .before .pre .1) in
-    let l1 = next (take 7 t) _ l0 (words-put (c .before .before .before .before .before .before .before .before .before .before .before .before .before .before .before .before .before .before .before .put-words .ensures)) in
-    let l2 = next (flat machineWidth mostMachines (between machinesAt committeesAt t)) _ l1 (c .before .before .before .before .before .before .before .before .before .before .before .before .before .before .put-flat .ensures) in
-    let l3 = next (nested Committees mostCommittees (between committeesAt boundsAt t)) _ l2 (c .before .before .before .before .before .before .before .before .before .put-rows .ensures) in
-    let l4 = next (flat boundaryWidth mostBounds (between boundsAt rotationsAt t)) _ l3 (c .before .before .before .before .put-flat2 .ensures) in
-    (between-length rotationsAt reshapesAt t (omega arith), room (flat rotationWidth mostRotations (between rotationsAt reshapesAt t)) _ l4)
-
-put-rows-requires-2 : tie.Need-put-rows-requires-2
-put-rows-requires-2 c κs = let t = c .before .before .before .before .before .before .before .before .before .before .before .before .before .before .before .before .before .before .before .before .before .before .before .before .before .before .before .before .before .args .t .now in
-    let l0 = packed-start t (c .before .before .before .before .before .before .before .before .before .before .before .before .before .before .before .before .before .before .before .before .before .before .before .before .before .before .before .before .before .args .out .now) (c .before .before .before .before .before .before .before .before .before .before .before .before .before .before .before .before .before .before .before .before .before .before .before .before .before .before .before .before .before .pre .1) in
-    let l1 = next (take 7 t) _ l0 (words-put (c .before .before .before .before .before .before .before .before .before .before .before .before .before .before .before .before .before .before .before .before .before .before .before .before .put-words .ensures)) in
-    let l2 = next (flat machineWidth mostMachines (between machinesAt committeesAt t)) _ l1 (c .before .before .before .before .before .before .before .before .before .before .before .before .before .before .before .before .before .before .before .put-flat .ensures) in
-    let l3 = next (nested Committees mostCommittees (between committeesAt boundsAt t)) _ l2 (c .before .before .before .before .before .before .before .before .before .before .before .before .before .before .put-rows .ensures) in
-    let l4 = next (flat boundaryWidth mostBounds (between boundsAt rotationsAt t)) _ l3 (c .before .before .before .before .before .before .before .before .before .put-flat2 .ensures) in
-    let l5 = next (flat rotationWidth mostRotations (between rotationsAt reshapesAt t)) _ l4 (c .before .before .before .before .put-flat3 .ensures) in
-    (between-length reshapesAt boardSize t (omega (arith, c .before .before .before .before .before .before .before .before .before .before .before .before .before .before .before .before .before .before .before .before .before .before .before .before .before .before .before .before .before .pre .0)), last-room _ l5)
+put-from-bounds-requires : tie.Need-put-from-bounds-requires
+put-from-bounds-requires c κs = let t = c .before .before .before .before .before .before .before .before .before .before .before .before .before .before .before .before .before .before .args .t .now in
+    let l0 = packed-start t (c .before .before .before .before .before .before .before .before .before .before .before .before .before .before .before .before .before .before .args .out .now) (c .before .before .before .before .before .before .before .before .before .before .before .before .before .before .before .before .before .before .pre .1) in
+    let l1 = next (take 7 t) _ l0 (words-put (c .before .before .before .before .before .before .before .before .before .before .before .before .before .put-words .ensures)) in
+    let l2 = next (flat machineWidth mostMachines (between machinesAt committeesAt t)) _ l1 (c .before .before .before .before .before .before .before .before .put-flat .ensures) in
+    let l3 = next (nested Committees mostCommittees (between committeesAt boundsAt t)) _ l2 (c .before .before .before .put-rows .ensures) in
+    (c .before .before .before .before .before .before .before .before .before .before .before .before .before .before .before .before .before .before .pre .0, last-room _ l3)
 
 returns : tie.Need-returns
-returns c = let t = c .before .before .before .before .before .before .before .before .before .before .before .before .before .before .before .before .before .before .before .before .before .before .before .before .before .before .before .before .before .before .before .before .args .t .now in
-    let l0 = packed-start t (c .before .before .before .before .before .before .before .before .before .before .before .before .before .before .before .before .before .before .before .before .before .before .before .before .before .before .before .before .before .before .before .before .args .out .now) (c .before .before .before .before .before .before .before .before .before .before .before .before .before .before .before .before .before .before .before .before .before .before .before .before .before .before .before .before .before .before .before .before .pre .1) in
-    let l1 = next (take 7 t) _ l0 (words-put (c .before .before .before .before .before .before .before .before .before .before .before .before .before .before .before .before .before .before .before .before .before .before .before .before .before .before .before .put-words .ensures)) in
-    let l2 = next (flat machineWidth mostMachines (between machinesAt committeesAt t)) _ l1 (c .before .before .before .before .before .before .before .before .before .before .before .before .before .before .before .before .before .before .before .before .before .before .put-flat .ensures) in
-    let l3 = next (nested Committees mostCommittees (between committeesAt boundsAt t)) _ l2 (c .before .before .before .before .before .before .before .before .before .before .before .before .before .before .before .before .before .put-rows .ensures) in
-    let l4 = next (flat boundaryWidth mostBounds (between boundsAt rotationsAt t)) _ l3 (c .before .before .before .before .before .before .before .before .before .before .before .before .put-flat2 .ensures) in
-    let l5 = next (flat rotationWidth mostRotations (between rotationsAt reshapesAt t)) _ l4 (c .before .before .before .before .before .before .before .put-flat3 .ensures) in
-    last _ l5 (c .before .before .put-rows2 .ensures)
+returns c = let t = c .before .before .before .before .before .before .before .before .before .before .before .before .before .before .before .before .before .before .before .before .before .args .t .now in
+    let l0 = packed-start t (c .before .before .before .before .before .before .before .before .before .before .before .before .before .before .before .before .before .before .before .before .before .args .out .now) (c .before .before .before .before .before .before .before .before .before .before .before .before .before .before .before .before .before .before .before .before .before .pre .1) in
+    let l1 = next (take 7 t) _ l0 (words-put (c .before .before .before .before .before .before .before .before .before .before .before .before .before .before .before .before .put-words .ensures)) in
+    let l2 = next (flat machineWidth mostMachines (between machinesAt committeesAt t)) _ l1 (c .before .before .before .before .before .before .before .before .before .before .before .put-flat .ensures) in
+    let l3 = next (nested Committees mostCommittees (between committeesAt boundsAt t)) _ l2 (c .before .before .before .before .before .before .put-rows .ensures) in
+    last _ l3 (c .before .before .put-from-bounds .ensures)
 
 pub put-board-spec : {M : Type 1} → statement M
 put-board-spec =
     tie.close
     (tie.spec
-    (λ c. search needs)
-    (λ c. search needs)
-    (λ c. search needs)
+    (λ c. lit≤ tt)
+    (λ c. lit≤ tt)
+    (λ c. within (c .before .before .pre .0) (lit≤ tt))
     put-words-requires
-    (λ c. search needs)
-    (λ c. search needs)
-    (λ c. search needs)
+    (λ c. lit≤ tt)
+    (λ c. lit≤ tt)
+    (λ c. within (c .before .before .before .before .before .before .before .pre .0) (lit≤ tt))
     put-flat-requires
-    (λ c. search needs)
-    (λ c. search needs)
-    (λ c. search needs)
+    (λ c. lit≤ tt)
+    (λ c. lit≤ tt)
+    (λ c. within (c .before .before .before .before .before .before .before .before .before .before .before .before .pre .0) (lit≤ tt))
     put-rows-requires
-    (λ c. search needs)
-    (λ c. search needs)
-    (λ c. search needs)
-    put-flat-requires-2
-    (λ c. search needs)
-    (λ c. search needs)
-    (λ c. search needs)
-    put-flat-requires-3
-    (λ c. search needs)
-    (λ c. search needs)
-    (λ c. search needs)
-    put-rows-requires-2
+    put-from-bounds-requires
     (λ c. search needs)
     returns)
