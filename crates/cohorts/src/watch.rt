@@ -38,7 +38,7 @@ fn set_to_watch(board: &mut [u64], target: ShardId, id: ValidatorId)
     let m = machines::at(board, i);
     let p = m.place;
     let epoch = settings::epoch(board);
-    pool::put_place(board, i, p.set_to_watch(target, epoch));
+    joining::put_place(board, i, p.set_to_watch(target, epoch));
 }
 
 // A seat, not ready, for one that has none in the reshape at i.
@@ -72,7 +72,7 @@ fn watch(board: &mut [u64], i: usize, target: ShardId, child: ShardId, id: Valid
         Holds (now (board .exit)) (moves.watch (target .0) (child .0) (id .0) b)) ⌝ }
 {
     set_to_watch(board, target, id);
-    pool::join(board, target, id);
+    joining::join(board, target, id);
     open_seat(board, i, child, id);
 }
 
