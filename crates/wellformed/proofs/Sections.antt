@@ -13,7 +13,7 @@ use Rattle.board.specs.Layout.{machinesAt, committeesAt, boundsAt, rotationsAt,
 use Rattle.word_tests.specs.Tests.{between, allPass}
 use Rattle.row_tests.specs.declared.RowKind.the-variants.{Machines, Committees, Boundaries, Rotations, Reshapes}
 use Rattle.row_tests.specs.Rows.{kindOk}
-use Rattle.wellformed.specs.Check.{settingsOk, wellFormedWords}
+use Rattle.wellformed.specs.Check.{settingsOk, tablesOk, wellFormedWords}
 
 -- a section has its count
 pub section-there : (a e : ℕ) (t : List ℕ) → a < e → e ≤ boardSize → length t ≡ boardSize → 1 ≤ length (between a e t)
@@ -23,11 +23,16 @@ pub words-other : (t : List ℕ) → (length t ≡ boardSize → ⊥) → false 
 unfolding wellFormedWords allPass
 words-other t h = let e : eqb (length t) boardSize ≡ false = ne-eqb (length t) boardSize h in rw e
 
-pub words-are : (t : List ℕ) (s m c b o r : Bool) → length t ≡ boardSize → s ≡ settingsOk (between 0 machinesAt t) → m ≡ kindOk Machines mostMachines (between machinesAt committeesAt t)
+pub tables-are : (t : List ℕ) (c b o r : Bool)
     → c ≡ kindOk Committees mostCommittees (between committeesAt boundsAt t) → b ≡ kindOk Boundaries mostBounds (between boundsAt rotationsAt t)
     → o ≡ kindOk Rotations mostRotations (between rotationsAt reshapesAt t) → r ≡ kindOk Reshapes mostReshapes (between reshapesAt boardSize t)
-    → (s && m && c && b && o && r) ≡ wellFormedWords t
+    → (c && b && o && r) ≡ tablesOk t
+unfolding tablesOk allPass
+tables-are t c b o r hc hb ho hr = rw (hc, hb, ho, hr)
+
+pub words-are : (t : List ℕ) (s m r : Bool) → length t ≡ boardSize → s ≡ settingsOk (between 0 machinesAt t) → m ≡ kindOk Machines mostMachines (between machinesAt committeesAt t)
+    → r ≡ tablesOk t → (s && m && r) ≡ wellFormedWords t
 unfolding wellFormedWords allPass
-words-are t s m c b o r l hs hm hc hb ho hr =
+words-are t s m r l hs hm hr =
     let e : eqb (length t) boardSize ≡ true = eq-eqb (length t) boardSize l in
-    rw (e, hs, hm, hc, hb, ho, hr)
+    rw (e, hs, hm, hr)
