@@ -26,15 +26,13 @@ numbersOk t =
 unfoldable pub settingsOk : List ℕ → Bool
 settingsOk t = allPass (eqb (at t 0) 6 ∷ numbersOk t ∷ allZero (between 7 machinesAt t) ∷ [])
 
--- the tables after that of machines
-unfoldable pub tablesOk : List ℕ → Bool
-tablesOk t =
-    allPass
-    (kindOk Committees mostCommittees (between committeesAt boundsAt t)
-    ∷ kindOk Boundaries mostBounds (between boundsAt rotationsAt t)
-    ∷ kindOk Rotations mostRotations (between rotationsAt reshapesAt t)
-    ∷ kindOk Reshapes mostReshapes (between reshapesAt boardSize t)
-    ∷ [])
+-- what a shard has
+unfoldable pub shardsOk : List ℕ → Bool
+shardsOk t = allPass (kindOk Committees mostCommittees (between committeesAt boundsAt t) ∷ kindOk Boundaries mostBounds (between boundsAt rotationsAt t) ∷ [])
+
+-- what is under way
+unfoldable pub underwayOk : List ℕ → Bool
+underwayOk t = allPass (kindOk Rotations mostRotations (between rotationsAt reshapesAt t) ∷ kindOk Reshapes mostReshapes (between reshapesAt boardSize t) ∷ [])
 
 unfoldable pub wellFormedWords : List ℕ → Bool
 wellFormedWords t =
@@ -42,5 +40,6 @@ wellFormedWords t =
     (eqb (length t) boardSize
     ∷ settingsOk (between 0 machinesAt t)
     ∷ kindOk Machines mostMachines (between machinesAt committeesAt t)
-    ∷ tablesOk t
+    ∷ shardsOk t
+    ∷ underwayOk t
     ∷ [])

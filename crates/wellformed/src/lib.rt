@@ -27,7 +27,7 @@ ghost use Rattle.word_tests.specs.Tests.{rises, firstOk};
 ghost use Rattle.row_tests.specs.declared.RowKind.the-variants.{Machines};
 ghost use Rattle.row_tests.specs.Rows.{machineOk, rowOk, inPairs, widthOf, Shape, kindOk};
 ghost use Rattle.wellformed.specs.Tells.{Tells};
-ghost use Rattle.wellformed.specs.Check.{numbersOk, settingsOk, tablesOk};
+ghost use Rattle.wellformed.specs.Check.{numbersOk, settingsOk, shardsOk, underwayOk};
 
 // ---- The ranges of rules/specs/Board.antt
 
@@ -128,15 +128,13 @@ pub fn settings_ok(t: &[u64]) -> bool
     (t[0] == SETTINGS_COUNT) & numbers_ok(t) & word_tests::all_zero(&t[SETTINGS_END..MACHINES_AT])
 }
 
-// The tables after that of machines.
-fn tables_ok(board: &[u64]) -> bool
+// What a shard has: committees and boundaries.
+fn shards_ok(board: &[u64]) -> bool
     requires { ⌜ length (now board) ≡ boardSize ⌝ }
-    ensures { λ r. ⌜ r ≡ tablesOk (now (board .entry)) ⌝ }
+    ensures { λ r. ⌜ r ≡ shardsOk (now (board .entry)) ⌝ }
 {
     let c = &board[COMMITTEES_AT..BOUNDS_AT];
     let b = &board[BOUNDS_AT..ROTATIONS_AT];
-    let o = &board[ROTATIONS_AT..RESHAPES_AT];
-    let r = &board[RESHAPES_AT..BOARD_SIZE];
     table_ok(
         RowKind::Committees,
         COMMITTEE_WIDTH,
@@ -145,7 +143,16 @@ fn tables_ok(board: &[u64]) -> bool
         c,
     )
         & table_ok(RowKind::Boundaries, BOUNDARY_WIDTH, false, MOST_BOUNDS, b)
-        & table_ok(RowKind::Rotations, ROTATION_WIDTH, true, MOST_ROTATIONS, o)
+}
+
+// What is under way: rotations and reshapes.
+fn underway_ok(board: &[u64]) -> bool
+    requires { ⌜ length (now board) ≡ boardSize ⌝ }
+    ensures { λ r. ⌜ r ≡ underwayOk (now (board .entry)) ⌝ }
+{
+    let o = &board[ROTATIONS_AT..RESHAPES_AT];
+    let r = &board[RESHAPES_AT..BOARD_SIZE];
+    table_ok(RowKind::Rotations, ROTATION_WIDTH, true, MOST_ROTATIONS, o)
         & table_ok(RowKind::Reshapes, RESHAPE_WIDTH, false, MOST_RESHAPES, r)
 }
 
@@ -158,5 +165,6 @@ pub fn well_formed(board: &[u64]) -> bool
     }
     settings_ok(&board[0..MACHINES_AT])
         & machines_ok(&board[MACHINES_AT..COMMITTEES_AT])
-        & tables_ok(board)
+        & shards_ok(board)
+        & underway_ok(board)
 }
