@@ -15,21 +15,19 @@ use types::Outcome;
 use types::ShardId;
 use types::ValidatorId;
 ghost use mathlib.Core.Path.{_≡_};
-ghost use mathlib.Core.List.{List, [], _∷_};
+ghost use mathlib.Core.List.{[], _∷_};
 ghost use mathlib.Core.Bool.{true, not};
-ghost use Prim.Native.Nat.{ℕ, _≤_, _<_, _%_};
+ghost use Prim.Native.Nat.{_≤_, _<_, _%_};
 ghost use lib.Dec.{eqb};
 ghost use lib.ListN.{length, getD, drop};
 ghost use Rattle.rules.specs.Lists.{_and_};
 ghost use Rattle.rules.specs.Board.{Board, mostMachines, mostRotations, epochOf};
 ghost use Rattle.rules.specs.WellFormed.{isShard, wellFormed};
-ghost use Rattle.rules.specs.Moves.{poolOf, mayJoin};
-ghost use Rattle.rules.specs.Draws.{drawFrom};
+ghost use Rattle.rules.specs.Moves.{mayJoin};
 ghost use Rattle.rules.specs.Places.{mayRotate, victimFit, rotateTurn, rotate};
 ghost use Rattle.board.specs.Layout.{boardSize};
 ghost use Rattle.board.specs.Held.{Holds, noMachine};
 ghost use Rattle.board.specs.Permitted.{PermittedStep};
-ghost use Rattle.pool.specs.Told as told;
 ghost use Rattle.pool.specs.Told.{TellsTurn};
 ghost use Rattle.steps.specs.Inner.{Steps};
 ghost use Rattle.committee.specs.Opened.{RowFor, opened};
@@ -121,24 +119,6 @@ fn open_at(board: &mut [u64], shard: ShardId, victim: ValidatorId, i: usize, k: 
     );
 }
 
-// The machine drawn, at row i, enters for a victim that is fit, if there is room.
-fn enter(board: &mut [u64], shard: ShardId, victim: ValidatorId, i: usize, left: Reader) -> Turned
-    requires { ⌜ (length (now board) ≡ boardSize) × (i < mostMachines) ⌝ }
-    ensures { λ r. ⌜ ((b : Board) (draws ds : List ℕ) → Holds (now (board .entry)) b → wellFormed b ≡ true → victimFit (shard .0) (victim .0) b ≡ true →
-        told.Found draws b (drawFrom (poolOf b) ds) i left → TellsTurn draws (now (board .exit)) b (rotateTurn (shard .0) (victim .0) ds b) r) ⌝ }
-{
-    let m = machines::at(board, i);
-    if !joining::may_join(board, shard, m.id) {
-        return Turned::Refused(Answer::NoRoom);
-    }
-    let k = row_for(board, shard, victim);
-    if MOST_ROTATIONS <= k {
-        return Turned::Refused(Answer::NoRoom);
-    }
-    open_at(board, shard, victim, i, k);
-    Turned::Done(1, left)
-}
-
 // The victim check, then one pool draw; where the turn is refused, every word is as before.
 pub fn rotate_turn(
     board: &mut [u64],
@@ -156,7 +136,18 @@ pub fn rotate_turn(
     }
     let found = pool::draw(board, draws, at);
     match found {
-        Found::Row(i, left) => enter(board, shard, victim, i, left),
+        Found::Row(i, left) => {
+            let m = machines::at(board, i);
+            if !joining::may_join(board, shard, m.id) {
+                return Turned::Refused(Answer::NoRoom);
+            }
+            let k = row_for(board, shard, victim);
+            if MOST_ROTATIONS <= k {
+                return Turned::Refused(Answer::NoRoom);
+            }
+            open_at(board, shard, victim, i, k);
+            Turned::Done(1, left)
+        }
         Found::Nobody => Turned::Done(0, at),
         Found::Missing => Turned::Refused(Answer::DrawMissing),
         Found::TooLarge => Turned::Refused(Answer::DrawTooLarge),
