@@ -1,5 +1,5 @@
 -- One machine comes to a shard: what is asked before, and its move, as the code has it at the machine's row.
-use Prim.Native.Nat.{ℕ, _+_, _≤_, _<_}
+use Prim.Native.Nat.{ℕ, _≤_, _<_}
 use mathlib.Core.Path.{_≡_, refl, ap, sym, _∙_}
 use mathlib.Core.Logic.{_≢_}
 use mathlib.Core.List.{List, [], _∷_}
@@ -7,7 +7,7 @@ use mathlib.Core.Option.{Option, none, some}
 use mathlib.Core.Bool.{true, false, not, true≢false}
 use native.Mathlib.Omega.{arith}
 use borrow.Author.Tests.{lt-leb, lt-ltb}
-use lib.Dec.{leb, ltb}
+use lib.Dec.{ltb}
 use lib.ListN.{length, getD, set}
 use Rattle.types.specs.Numbers.{Shard, Id}
 use Rattle.types.specs.Places.{isSeatedOn}
@@ -15,19 +15,18 @@ use Rattle.types.specs.declared.Place.{Place}
 use Rattle.types.specs.declared.Place.the-variants.{Pooled, Seated, Observing, Short, Other}
 use Rattle.rules.specs.Lists.{_and_, _or_, every, has}
 use Rattle.rules.specs.Table.{entry, Table, isSome, at, stands}
-use Rattle.rules.specs.Board.{Reshape, Board, mostMachines, mostCommittees, mostMembers, lastTarget, onMachines, onReshapes}
+use Rattle.rules.specs.Board.{Reshape, Board, mostMachines, mostCommittees, lastTarget, onMachines, onReshapes}
 use Rattle.rules.specs.WellFormed.{isTarget, wellFormed}
 use Rattle.rules.specs.Moves.{membersOf, place, join, putOn, mayJoin, heightOf}
 use Rattle.rules.proofs.Counts.{eqb-apart, hit-same, occ, occ-single}
 use Rattle.rules.proofs.Tests.{and-parts, and-joins, or-left, or-right, le-of, of-le, eq-of, has-occ, not-of}
 use Rattle.rules.proofs.KeptBoard.{Fit, Good, good-of, fit-at}
 use Rattle.rules.proofs.KeptMoves.{Joins}
-use Rattle.tables.specs.Rows.{Rising, keyOf}
 use Rattle.tables.proofs.Keys.{at-is}
-use Rattle.board.specs.Held.{Holds, noMachine, noCommittee, noBoundary, noReshape}
+use Rattle.board.specs.Held.{Holds, noMachine, noBoundary, noReshape}
 use Rattle.board.proofs.Fitting.{held-as}
 use Rattle.board.proofs.Keyed.{machines-rise, bounds-rise, reshapes-rise}
-use Rattle.board.proofs.Moves.{place-at, members-at}
+use Rattle.board.proofs.Moves.{place-at}
 use Rattle.rows.specs.Found.{Found}
 use Rattle.recasting.proofs.Sizes.{put-length, lack-none}
 use Rattle.arriving.specs.Coming.{reshapeIn, MayCome}
@@ -43,14 +42,6 @@ joins-may {b} {c} {x} h j = and-joins _ _ (stood (at c (b .committees)) refl) (a
     stood : (o : Option (List Id)) → at c (b .committees) ≡ o → (stands c (b .committees) or ltb (length (b .committees)) mostCommittees) ≡ true
     stood none q = or-right _ _ (lt-ltb (length (b .committees)) mostCommittees (omega (arith, j .opens [], put-length c (b .committees) (h .committees .rising) [], lack-none c (b .committees) q)))
     stood (some l) q = or-left _ _ (ap isSome q)
-
--- what 11 asked: the committee at row j has room
-pub joins-room : (b : Board) (s x j : ℕ) → Rising keyOf (b .committees) → j < length (b .committees) → getD (b .committees) j noCommittee .key ≡ s → mayJoin s (x ∷ []) b ≡ true
-    → length (getD (b .committees) j noCommittee .val) < mostMembers
-unfolding mayJoin
-joins-room b s x j r l e m =
-    let f : leb (length (membersOf s b) + 1) mostMembers ≡ true = and-parts _ _ (and-parts _ _ m .1) .1 in
-    omega (arith, ap length (members-at b s j r l e), le-of (length (membersOf s b) + 1) mostMembers f)
 
 -- ---- one that is not seated there yet
 

@@ -1,6 +1,5 @@
 // What both cuts share: a machine that comes to a new shard, and the records of those who have a seat.
 use board::committees;
-use board::layout::MOST_COMMITTEES;
 use board::layout::MOST_MACHINES;
 use board::layout::MOST_SEATS;
 use board::machines;
@@ -15,31 +14,15 @@ ghost use Prim.Native.Nat.{_<_};
 ghost use lib.ListN.{length, getD};
 ghost use Rattle.rules.specs.Lists.{every};
 ghost use Rattle.rules.specs.Table.{stands, keysOf};
-ghost use Rattle.rules.specs.Board.{Board, mostMachines, mostCommittees, mostReshapes};
+ghost use Rattle.rules.specs.Board.{Board, mostMachines, mostReshapes};
 ghost use Rattle.rules.specs.WellFormed.{wellFormed};
 ghost use Rattle.rules.specs.Moves.{join, mayJoin, putOn};
 ghost use Rattle.tables.specs.Rows.{Rising, keyOf};
 ghost use Rattle.board.specs.Layout.{boardSize};
-ghost use Rattle.board.specs.Held.{Holds, noMachine, noCommittee};
+ghost use Rattle.board.specs.Held.{Holds, noMachine};
 ghost use Rattle.arriving.specs.Coming.{reshapeIn};
 
 // ---- a machine comes
-
-// The shard's committee is at row near.
-fn stands_at(board: &[u64], near: usize, shard: ShardId) -> bool
-    requires { ⌜ length (now board) ≡ boardSize ⌝ }
-    ensures { λ r. ⌜ (r ≡ true → near < mostCommittees) × ((b : Board) → Holds (now (board .entry)) b → r ≡ true →
-        (near < length (b .committees)) × (getD (b .committees) near noCommittee .key ≡ shard .0)) ⌝ }
-{
-    if MOST_COMMITTEES <= near {
-        return false;
-    }
-    if committees::count(board) <= near {
-        return false;
-    }
-    let there = committees::shard_at(board, near);
-    there.0 == shard.0
-}
 
 // A member more; the committee is looked for at row near first.
 fn join_near(board: &mut [u64], near: usize, shard: ShardId, id: ValidatorId)
@@ -47,11 +30,11 @@ fn join_near(board: &mut [u64], near: usize, shard: ShardId, id: ValidatorId)
     ensures { λ _. ⌜ ((b : Board) → Holds (now (board .entry)) b → Rising keyOf (b .committees) → mayJoin (shard .0) (id .0 ∷ []) b ≡ true →
         Holds (now (board .exit)) (join (shard .0) (id .0) b)) ⌝ }
 {
-    if stands_at(board, near, shard) {
+    if joining::stands_at(board, near, shard) {
         committees::push_member(board, near, id);
         return;
     }
-    pool::join(board, shard, id);
+    joining::join(board, shard, id);
 }
 
 // The machine at a row gets a new place, and joins the shard, whose committee is looked for at row near first.
@@ -61,7 +44,7 @@ pub fn put_on(board: &mut [u64], near: usize, row: usize, shard: ShardId, place:
         Holds (now (board .exit)) (putOn (shard .0) (λ q. place) (getD (b .machines) row noMachine .key) b)) ⌝ }
 {
     let m = machines::at(board, row);
-    pool::put_place(board, row, place);
+    joining::put_place(board, row, place);
     join_near(board, near, shard, m.id);
 }
 

@@ -9,14 +9,14 @@ use native.Mathlib.Numerals.{add-one}
 use borrow.Author.Tests.{lt-ltb, le-ltb, le-leb, lt-leb, ne-eqb}
 use lib.Dec.{eqb, leb, ltb}
 use lib.ListN.{length, getD, set, take, drop, drop-of-length-le, length-drop}
-use lib.Seq.{drop-cons, length-take-le, take-append-le, take-suc-set, take-set-le}
+use lib.Seq.{drop-cons, length-take-le, take-suc-set, take-set-le}
 use Rattle.types.specs.Numbers.{Shard, Id}
 use Rattle.types.specs.Places.{isPooled}
 use Rattle.types.specs.declared.Answer.the-variants.{Done, OutOfRange, NotThere, DrawMissing, DrawTooLarge, NoRoom, PoolTooSmall}
 use Rattle.types.specs.declared.Outcome.{Outcome}
 use Rattle.rules.specs.Lists.{_and_, _or_, bitOf, every, any, has, isEmpty}
 use Rattle.rules.specs.Table.{Table, isSome, at, stands, holdsAt, keysWhere}
-use Rattle.rules.specs.Board.{merge, Seat, Reshape, Board, mostCommittees, mostMembers, mostSeats, sizeOf}
+use Rattle.rules.specs.Board.{merge, Seat, Reshape, Board, mostCommittees, mostMembers, mostReshapes, mostSeats, sizeOf}
 use Rattle.rules.specs.WellFormed.{isTarget, goodIds, wellFormed}
 use Rattle.rules.specs.Draws.{drew, missing, tooLarge, shuffle}
 use Rattle.rules.specs.Moves.{poolOf, mayJoin, isKind}
@@ -38,9 +38,9 @@ use Rattle.board.specs.Held.{Holds, noMachine, noCommittee, noReshape}
 use Rattle.board.proofs.Keyed.{committees-rise, reshapes-rise}
 use Rattle.board.proofs.Moves.{members-at, members-none}
 use Rattle.pool.proofs.Pools.{keys-here, keys-past}
-use Rattle.rows.proofs.Asked.{holds-none}
 use Rattle.steps.specs.Inner.{outcome, Step}
 use Rattle.lapses.proofs.Lapses.{splits-unless}
+use Rattle.cohorts.specs.Awaiting.{Awaiting}
 
 -- ---- the pool, as a loop gathers it
 
@@ -70,17 +70,13 @@ module _ (draws pool l after : List ℕ) (e : l ≡ pool) (p : ℕ) (z : p ≡ 0
   pub mix-done : (left : Reader) → r ≡ shuffled.Done left → (left .at ≤ length draws) × (shuffle pool draws ≡ drew after (drop (left .at) draws))
   mix-done left q = let d = shuffle-drew draws l p (omega arith) r g left q in (d .0, rw (← m, e, z) at (d .1))
 
--- the first S of them, as they stand in the words lent
+-- the first S of them
 module _ (b : Board) (draws ids left : List ℕ) (s : shuffle (poolOf b) draws ≡ drew ids left) where
   whole : length ids ≡ length (poolOf b)
   whole = shuffle-keeps 0 (poolOf b) draws ids left s .0
 
-  module _ (l : sizeOf b ≤ length (poolOf b)) (rest : List ℕ) (size : ℕ) (n : size ≡ sizeOf b) where
-    first : take size (ids ++ rest) ≡ take (sizeOf b) ids
-    first = rw n (take-append-le (sizeOf b) ids rest (omega (arith, whole)))
-
-    pub good-cohort : wellFormed b ≡ true → goodIds mostSeats (take size (ids ++ rest)) ≡ true
-    good-cohort ok = rw first (of-ids (chosen (good-of b ok) ids (record { size = whole; ids = λ x. shuffle-keeps x (poolOf b) draws ids left s .1 })))
+  pub good-cohort : (size : ℕ) → size ≡ sizeOf b → wellFormed b ≡ true → goodIds mostSeats (take size ids) ≡ true
+  good-cohort size n ok = rw n (of-ids (chosen (good-of b ok) ids (record { size = whole; ids = λ x. shuffle-keeps x (poolOf b) draws ids left s .1 })))
 
 -- ---- a split that awaits its cohort
 
@@ -153,6 +149,15 @@ module _ (b : Board) (t : Shard) (ids : List Id) (few : length ids ≤ mostSeats
         go true u = le-leb (length members) (mostMembers - length ids) (omega (arith, le-of (length members + length ids) mostMembers u))
         go false u = lt-leb (length members) (mostMembers - length ids) (omega (arith, lt-of-no (length members + length ids) mostMembers u))
 
+-- ---- the row of one that does
+
+pub asks : (b : Board) → wellFormed b ≡ true → (t : Shard) (i : ℕ) → i < length (b .reshapes) → getD (b .reshapes) i noReshape .key ≡ t
+    → holdsAt t awaitsCohort (b .reshapes) ≡ awaitsCohort (getD (b .reshapes) i noReshape .val)
+asks b ok t i here named = holds-at t awaitsCohort (b .reshapes) _ (at-is (b .reshapes) (reshapes-rise b ok) t i noReshape here named)
+
+pub none-awaits : (b : Board) (t : Shard) → holdsAt t awaitsCohort (b .reshapes) ≡ false → Awaiting t b mostReshapes
+none-awaits b t n = record { inside = λ l. absurd (omega arith); named = λ l. absurd (omega arith); awaits = λ l. absurd (omega arith); missing = λ l. n }
+
 -- ---- each way out
 
 module _ (b : Board) (ok : wellFormed b ≡ true) (after : List ℕ) (r : Outcome) (t : Shard) (draws : List ℕ) where
@@ -161,23 +166,14 @@ module _ (b : Board) (ok : wellFormed b ≡ true) (after : List ℕ) (r : Outcom
   no-target n h e = record { told = rw (ok, n) e; left = rw (ok, n) h }
 
   module _ (y : isTarget t ≡ true) where
-    not-there : holdsAt t awaitsCohort (b .reshapes) ≡ false → Holds after b → r ≡ outcome NotThere 0 0 → Step (drawCohort t draws) b after r
+    pub not-there : holdsAt t awaitsCohort (b .reshapes) ≡ false → Holds after b → r ≡ outcome NotThere 0 0 → Step (drawCohort t draws) b after r
     unfolding drawCohort alone checked
     not-there n h e = record { told = rw (ok, y, n) e; left = rw (ok, y, n) h }
 
-    pub no-reshape : at t (b .reshapes) ≡ none → Holds after b → r ≡ outcome NotThere 0 0 → Step (drawCohort t draws) b after r
-    no-reshape n h e = not-there (holds-none t awaitsCohort (b .reshapes) n) h e
-
     module _ (i : ℕ) (here : i < length (b .reshapes)) (named : getD (b .reshapes) i noReshape .key ≡ t) where
-      asks : holdsAt t awaitsCohort (b .reshapes) ≡ awaitsCohort (getD (b .reshapes) i noReshape .val)
-      asks = holds-at t awaitsCohort (b .reshapes) _ (at-is (b .reshapes) (reshapes-rise b ok) t i noReshape here named)
-
-      pub none-awaited : awaitsCohort (getD (b .reshapes) i noReshape .val) ≡ false → Holds after b → r ≡ outcome NotThere 0 0 → Step (drawCohort t draws) b after r
-      none-awaited n h e = not-there (asks ∙ n) h e
-
       module _ (a : awaitsCohort (getD (b .reshapes) i noReshape .val) ≡ true) where
         awaits : holdsAt t awaitsCohort (b .reshapes) ≡ true
-        awaits = asks ∙ a
+        awaits = asks b ok t i here named ∙ a
 
         pub pool-small : length (poolOf b) < sizeOf b → Holds after b → r ≡ outcome PoolTooSmall 0 0 → Step (drawCohort t draws) b after r
         unfolding drawCohort alone checked
@@ -206,11 +202,9 @@ module _ (b : Board) (ok : wellFormed b ≡ true) (after : List ℕ) (r : Outcom
                 let used : length draws - length (drop left draws) ≡ left = omega (arith, length-drop left draws) in
                 record { told = rw (ok, y, awaits, enough, s, m, used) e; left = rw (ok, y, awaits, enough, s, m) h }
 
-            pub drawn-out : (rest : List ℕ) (size : ℕ) → size ≡ sizeOf b → r ≡ cond (mayJoin t (take size (ids ++ rest)) b) (outcome Done (length (take size (ids ++ rest))) left) (outcome NoRoom 0 0)
-                → Holds after (cond (mayJoin t (take size (ids ++ rest)) b) (watchAll t (take size (ids ++ rest)) b) b) → Step (drawCohort t draws) b after r
-            drawn-out rest size n e h =
-                let f = first b draws ids (drop left draws) s l rest size n in
-                go (mayJoin t (take (sizeOf b) ids) b) refl (rw f at e) (rw f at h)
+            pub drawn-out : (size : ℕ) → size ≡ sizeOf b → r ≡ cond (mayJoin t (take size ids) b) (outcome Done (length (take size ids)) left) (outcome NoRoom 0 0)
+                → Holds after (cond (mayJoin t (take size ids) b) (watchAll t (take size ids) b) b) → Step (drawCohort t draws) b after r
+            drawn-out size n e h = go (mayJoin t (take (sizeOf b) ids) b) refl (rw n at e) (rw n at h)
               where
                 go : (c : Bool) → mayJoin t (take (sizeOf b) ids) b ≡ c → r ≡ cond c (outcome Done (length (take (sizeOf b) ids)) left) (outcome NoRoom 0 0)
                     → Holds after (cond c (watchAll t (take (sizeOf b) ids) b) b) → Step (drawCohort t draws) b after r

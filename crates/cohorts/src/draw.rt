@@ -5,9 +5,7 @@ use board::layout::MOST_COMMITTEES;
 use board::layout::MOST_MACHINES;
 use board::layout::MOST_MEMBERS;
 use board::layout::MOST_RESHAPES;
-use board::layout::MOST_SEATS;
 use board::machines;
-use board::settings;
 use reshapes::fields;
 use reshapes::seats;
 use sampling::Reader;
@@ -21,7 +19,7 @@ ghost use mathlib.Core.Bool.{true, cond, not};
 ghost use Prim.Native.Nat.{_<_, _≤_};
 ghost use lib.ListN.{length, getD, take};
 ghost use Rattle.rules.specs.Lists.{every, has, isEmpty};
-ghost use Rattle.rules.specs.Board.{Board, mostMachines, mostCommittees, mostReshapes, mostSeats};
+ghost use Rattle.rules.specs.Board.{Board, mostMachines, mostCommittees, mostReshapes, mostSeats, sizeOf};
 ghost use Rattle.rules.specs.WellFormed.{isTarget, goodIds, wellFormed};
 ghost use Rattle.rules.specs.Moves.{poolOf, mayJoin};
 ghost use Rattle.rules.specs.Reshapes.{awaitsCohort, watchAll, drawCohort};
@@ -29,6 +27,7 @@ ghost use Rattle.board.specs.Layout.{boardSize};
 ghost use Rattle.board.specs.Held.{Holds, noCommittee, noReshape};
 ghost use Rattle.board.specs.Permitted.{PermittedStep};
 ghost use Rattle.steps.specs.Inner.{outcome, Step, Steps};
+ghost use Rattle.cohorts.specs.Awaiting.{Awaiting};
 
 // ---- what is asked
 
@@ -64,6 +63,21 @@ fn awaits_cohort(board: &[u64], i: usize) -> bool
         return false;
     }
     seats::count(board, i) == 0
+}
+
+// The row of the target's split, if it awaits its cohort; else 16, past every row.
+fn awaiting_row(board: &[u64], target: ShardId) -> usize
+    requires { ⌜ length (now board) ≡ boardSize ⌝ }
+    ensures { λ r. ⌜ ((b : Board) → Holds (now (board .entry)) b → wellFormed b ≡ true → Awaiting (target .0) b r) ⌝ }
+{
+    let i = rows::reshape_row(board, target);
+    if MOST_RESHAPES <= i {
+        return MOST_RESHAPES;
+    }
+    if awaits_cohort(board, i) {
+        return i;
+    }
+    MOST_RESHAPES
 }
 
 // No id is a member of the committee at j.
@@ -113,23 +127,39 @@ fn enlist(board: &mut [u64], i: usize, target: ShardId, ids: &[u64], used: u64) 
     steps::refusal(Answer::NoRoom)
 }
 
-// The draw for a split that awaits its cohort at i; 256 words are lent for the pool.
+// The draw for a split that awaits its cohort at i, from the pool, which has enough.
+fn draw_from(
+    board: &mut [u64],
+    i: usize,
+    target: ShardId,
+    size: usize,
+    draws: &[u64],
+    pool: &mut [u64],
+) -> Outcome
+    requires { ⌜ (length (now board) ≡ boardSize) × (i < mostReshapes) × (target .0 ≤ 65535) × (size ≤ mostSeats) × (size ≤ length (now pool)) ⌝ }
+    ensures { λ r. ⌜ ((b : Board) → Holds (now (board .entry)) b → wellFormed b ≡ true → isTarget (target .0) ≡ true → i < length (b .reshapes) → getD (b .reshapes) i noReshape .key ≡ target .0 →
+        awaitsCohort (getD (b .reshapes) i noReshape .val) ≡ true → size ≡ sizeOf b → now (pool .entry) ≡ poolOf b → Step (drawCohort (target .0) (now (draws .entry))) b (now (board .exit)) r) ⌝ }
+{
+    let shuffled = Reader::start().shuffle(pool, draws);
+    match shuffled {
+        Shuffled::Done(left) => enlist(board, i, target, &pool[..size], left.at as u64),
+        Shuffled::Missing => steps::refusal(Answer::DrawMissing),
+        Shuffled::TooLarge => steps::refusal(Answer::DrawTooLarge),
+    }
+}
+
+// The same, if the pool has enough; 256 words are lent for it.
 fn draw_for(board: &mut [u64], i: usize, target: ShardId, draws: &[u64], ids: &mut [u64]) -> Outcome
     requires { ⌜ (length (now board) ≡ boardSize) × (i < mostReshapes) × (target .0 ≤ 65535) × (length (now ids) ≡ mostMachines) ⌝ }
     ensures { λ r. ⌜ ((b : Board) → Holds (now (board .entry)) b → wellFormed b ≡ true → isTarget (target .0) ≡ true → i < length (b .reshapes) → getD (b .reshapes) i noReshape .key ≡ target .0 →
         awaitsCohort (getD (b .reshapes) i noReshape .val) ≡ true → Step (drawCohort (target .0) (now (draws .entry))) b (now (board .exit)) r) ⌝ }
 {
     let n = pool_ids(board, ids);
-    let size = steps::rows_within(settings::shard_size(board) as usize, MOST_SEATS);
+    let size = watch::cohort_size(board);
     if n < size {
         return steps::refusal(Answer::PoolTooSmall);
     }
-    let shuffled = Reader::start().shuffle(&mut ids[..n], draws);
-    match shuffled {
-        Shuffled::Done(left) => enlist(board, i, target, &ids[..size], left.at as u64),
-        Shuffled::Missing => steps::refusal(Answer::DrawMissing),
-        Shuffled::TooLarge => steps::refusal(Answer::DrawTooLarge),
-    }
+    draw_from(board, i, target, size, draws, &mut ids[..n])
 }
 
 // Draw cohort, for words that are known to hold a well-formed board.
@@ -140,11 +170,8 @@ pub fn draw_split_cohort_held(board: &mut [u64], target: ShardId, draws: &[u64])
     if !rows::is_target(target) {
         return steps::refusal(Answer::OutOfRange);
     }
-    let i = rows::reshape_row(board, target);
+    let i = awaiting_row(board, target);
     if MOST_RESHAPES <= i {
-        return steps::refusal(Answer::NotThere);
-    }
-    if !awaits_cohort(board, i) {
         return steps::refusal(Answer::NotThere);
     }
     let mut ids: [u64; MOST_MACHINES] = [0; MOST_MACHINES];

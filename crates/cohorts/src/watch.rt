@@ -17,7 +17,7 @@ ghost use Rattle.types.specs.Shards.{leftOf, rightOf};
 ghost use Rattle.types.specs.Places.{setToWatch};
 ghost use Rattle.rules.specs.Lists.{isEmpty};
 ghost use Rattle.rules.specs.Table.{at, put, update};
-ghost use Rattle.rules.specs.Board.{Board, mostReshapes, mostSeats, onReshapes, epochOf};
+ghost use Rattle.rules.specs.Board.{Board, mostReshapes, mostSeats, onReshapes, epochOf, sizeOf};
 ghost use Rattle.rules.specs.WellFormed.{goodIds, wellFormed};
 ghost use Rattle.rules.specs.Moves as moves;
 ghost use Rattle.rules.specs.Moves.{place, mayJoin, newSeat, withSeats};
@@ -38,7 +38,7 @@ fn set_to_watch(board: &mut [u64], target: ShardId, id: ValidatorId)
     let m = machines::at(board, i);
     let p = m.place;
     let epoch = settings::epoch(board);
-    pool::put_place(board, i, p.set_to_watch(target, epoch));
+    joining::put_place(board, i, p.set_to_watch(target, epoch));
 }
 
 // A seat, not ready, for one that has none in the reshape at i.
@@ -72,7 +72,7 @@ fn watch(board: &mut [u64], i: usize, target: ShardId, child: ShardId, id: Valid
         Holds (now (board .exit)) (moves.watch (target .0) (child .0) (id .0) b)) ⌝ }
 {
     set_to_watch(board, target, id);
-    pool::join(board, target, id);
+    joining::join(board, target, id);
     open_seat(board, i, child, id);
 }
 
@@ -86,6 +86,14 @@ fn child_of(target: ShardId, left: bool) -> ShardId
     target.right()
 }
 
+// S, as many as a cohort has, and no more than there is room for.
+pub fn cohort_size(board: &[u64]) -> usize
+    requires { ⌜ length (now board) ≡ boardSize ⌝ }
+    ensures { λ r. ⌜ (r ≤ mostSeats) × ((b : Board) → Holds (now (board .entry)) b → wellFormed b ≡ true → r ≡ sizeOf b) ⌝ }
+{
+    steps::rows_within(settings::shard_size(board) as usize, MOST_SEATS)
+}
+
 // The ids watch the target: the first of them, half of S rounded up, for the left child, and the rest for the right.
 pub fn watch_all(board: &mut [u64], i: usize, target: ShardId, ids: &[u64])
     requires { ⌜ (length (now board) ≡ boardSize) × (i < mostReshapes) × (target .0 ≤ 65535) ⌝ }
@@ -93,7 +101,7 @@ pub fn watch_all(board: &mut [u64], i: usize, target: ShardId, ids: &[u64])
         isEmpty (getD (b .reshapes) i noReshape .val .seats) ≡ true → goodIds mostSeats (now (ids .entry)) ≡ true → mayJoin (target .0) (now (ids .entry)) b ≡ true →
         Holds (now (board .exit)) (watchAll (target .0) (now (ids .entry)) b)) ⌝ }
 {
-    let size = steps::rows_within(settings::shard_size(board) as usize, MOST_SEATS);
+    let size = cohort_size(board);
     let half = (size + 1) / 2;
     let mut k: usize = 0;
     while k < ids.len() {

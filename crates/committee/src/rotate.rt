@@ -138,7 +138,7 @@ pub fn rotate_turn(
     match found {
         Found::Row(i, left) => {
             let m = machines::at(board, i);
-            if !pool::may_join(board, shard, m.id) {
+            if !joining::may_join(board, shard, m.id) {
                 return Turned::Refused(Answer::NoRoom);
             }
             let k = row_for(board, shard, victim);

@@ -31,7 +31,7 @@ use Rattle.board.specs.Held.{Holds, noMachine, noReshape}
 use Rattle.board.proofs.Keyed.{machines-rise, reshapes-rise}
 use Rattle.rows.specs.Found.{Found}
 use Rattle.moves.proofs.Exiting.{kind-split}
-use Rattle.pool.proofs.Struck.{pool-stands}
+use Rattle.joining.proofs.Struck.{pool-stands}
 
 -- ---- whether a scheduled split stands there, asked at the row that was found
 

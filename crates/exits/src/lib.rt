@@ -68,7 +68,7 @@ fn refill(ws: &mut [u64], shard: ShardId, id: ValidatorId, draws: &[u64], at: Re
     match found {
         Found::Row(k, left) => {
             let m = machines::at(ws, k);
-            if pool::may_replace(ws, shard, id, m.id) {
+            if joining::may_replace(ws, shard, id, m.id) {
                 leave_seat(ws, shard, id);
                 pool::seat_drawn(ws, shard, k);
                 return Turned::Done(1, left);
@@ -119,7 +119,7 @@ pub fn exit_placement(ws: &mut [u64], i: usize, draws: &[u64], at: Reader) -> Tu
             Turned::Done(0, at)
         }
         _ => {
-            pool::put_place(ws, i, p.short());
+            joining::put_place(ws, i, p.short());
             Turned::Done(0, at)
         }
     }

@@ -1,6 +1,3 @@
 pub mod Pools
-pub mod Placed
-pub mod Joins
 pub mod Draws
-pub mod Struck
 pub mod Alone

@@ -1,33 +1,23 @@
 // The pool: the machines that wait for a seat, and a draw that seats one of them.
-use board::committees;
-use board::layout::MOST_COMMITTEES;
 use board::layout::MOST_MACHINES;
-use board::layout::MOST_MEMBERS;
 use board::machines;
 use board::settings;
 use sampling::Drawn;
 use sampling::Reader;
 use types::Answer;
-use types::Machine;
 use types::Outcome;
-use types::Place;
 use types::ShardId;
-use types::ValidatorId;
 ghost use mathlib.Core.Path.{_≡_};
 ghost use mathlib.Core.List.{[], _∷_};
 ghost use mathlib.Core.Bool.{true, false};
 ghost use Prim.Native.Nat.{_<_, _≤_};
 ghost use lib.ListN.{length, getD, drop};
-ghost use Rattle.rules.specs.Board.{Board, mostMachines, mostCommittees, epochOf};
+ghost use Rattle.rules.specs.Board.{Board, mostMachines, epochOf};
 ghost use Rattle.types.specs.Places.{drawnTo};
 ghost use Rattle.rules.specs.WellFormed.{wellFormed};
-ghost use Rattle.rules.specs.Table.{stands};
-ghost use Rattle.rules.specs.Moves as moves;
-ghost use Rattle.rules.specs.Moves.{poolOf, place, mayJoin, putOn};
-ghost use Rattle.rules.specs.Places.{leaveSeat};
+ghost use Rattle.rules.specs.Moves.{poolOf, mayJoin, putOn};
 ghost use Rattle.rules.specs.Draws.{drawFrom};
 ghost use Rattle.rules.specs.Turns.{poolDraw};
-ghost use Rattle.tables.specs.Rows.{Rising, keyOf, placeOf};
 ghost use Rattle.board.specs.Layout.{boardSize};
 ghost use Rattle.board.specs.Held.{Holds, noMachine};
 ghost use Rattle.pool.specs.Ranks.{HasRank};
@@ -117,85 +107,7 @@ pub fn pooled_at_rank(ws: &[u64], k: usize) -> usize
     0
 }
 
-// The place of the machine at row i is replaced.
-pub fn put_place(ws: &mut [u64], i: usize, p: Place)
-    requires { ⌜ (length (now ws) ≡ boardSize) × (i < mostMachines) ⌝ }
-    ensures { λ _. ⌜ ((b : Board) → Holds (now (ws .entry)) b → Rising keyOf (b .machines) → i < length (b .machines) →
-        Holds (now (ws .exit)) (place (getD (b .machines) i noMachine .key) (λ q. p) b)) ⌝ }
-{
-    let m = machines::at(ws, i);
-    let id = m.id;
-    machines::put(ws, i, Machine { id: id, place: p });
-}
-
 // ---- onto a shard
-
-// Whether the committee at a shard's place is the shard's own.
-fn stands_at(ws: &[u64], j: usize, shard: ShardId) -> bool
-    requires { ⌜ length (now ws) ≡ boardSize ⌝ }
-    ensures { λ r. ⌜ (r ≡ true → j < mostCommittees) × ((b : Board) → Holds (now (ws .entry)) b → Rising keyOf (b .committees) → j ≡ placeOf keyOf (shard .0) (b .committees) →
-        r ≡ stands (shard .0) (b .committees)) ⌝ }
-{
-    if MOST_COMMITTEES <= j {
-        return false;
-    }
-    if committees::count(ws) <= j {
-        return false;
-    }
-    let s = committees::shard_at(ws, j);
-    s.0 == shard.0
-}
-
-pub fn may_join(ws: &[u64], shard: ShardId, id: ValidatorId) -> bool
-    requires { ⌜ length (now ws) ≡ boardSize ⌝ }
-    ensures { λ r. ⌜ ((b : Board) → Holds (now (ws .entry)) b → Rising keyOf (b .committees) → r ≡ mayJoin (shard .0) (id .0 ∷ []) b) ⌝ }
-{
-    let j = committees::place_of(ws, shard);
-    if stands_at(ws, j, shard) {
-        if committees::has_member(ws, j, id) {
-            return false;
-        }
-        return committees::member_count(ws, j) < MOST_MEMBERS;
-    }
-    committees::count(ws) < MOST_COMMITTEES
-}
-
-// Whether another may join once a machine is off the shard.
-pub fn may_replace(ws: &[u64], shard: ShardId, old: ValidatorId, new: ValidatorId) -> bool
-    requires { ⌜ length (now ws) ≡ boardSize ⌝ }
-    ensures { λ r. ⌜ ((b : Board) → Holds (now (ws .entry)) b → Rising keyOf (b .committees) → r ≡ mayJoin (shard .0) (new .0 ∷ []) (leaveSeat (shard .0) (old .0) b)) ⌝ }
-{
-    let j = committees::place_of(ws, shard);
-    if stands_at(ws, j, shard) {
-        if committees::has_member(ws, j, new) & (new.0 != old.0) {
-            return false;
-        }
-        if committees::has_member(ws, j, old) {
-            return true;
-        }
-        let members = committees::member_count(ws, j);
-        return members < MOST_MEMBERS;
-    }
-    committees::count(ws) < MOST_COMMITTEES
-}
-
-// A member more, of a committee that is opened if it is missing.
-pub fn join(ws: &mut [u64], shard: ShardId, id: ValidatorId)
-    requires { ⌜ length (now ws) ≡ boardSize ⌝ }
-    ensures { λ _. ⌜ ((b : Board) → Holds (now (ws .entry)) b → Rising keyOf (b .committees) → mayJoin (shard .0) (id .0 ∷ []) b ≡ true →
-        Holds (now (ws .exit)) (moves.join (shard .0) (id .0) b)) ⌝ }
-{
-    let j = committees::place_of(ws, shard);
-    if MOST_COMMITTEES <= j {
-        return;
-    }
-    if stands_at(ws, j, shard) {
-        committees::push_member(ws, j, id);
-        return;
-    }
-    committees::open(ws, j, shard);
-    committees::push_member(ws, j, id);
-}
 
 // The machine at row i, seated on the shard: waiting, stamped now, and a member.
 pub fn seat_drawn(ws: &mut [u64], shard: ShardId, i: usize)
@@ -206,8 +118,8 @@ pub fn seat_drawn(ws: &mut [u64], shard: ShardId, i: usize)
     let m = machines::at(ws, i);
     let p = m.place;
     let epoch = settings::epoch(ws);
-    put_place(ws, i, p.drawn_to(shard, epoch));
-    join(ws, shard, m.id);
+    joining::put_place(ws, i, p.drawn_to(shard, epoch));
+    joining::join(ws, shard, m.id);
 }
 
 // ---- the draw
@@ -242,7 +154,7 @@ pub fn pool_draw(ws: &mut [u64], shard: ShardId, draws: &[u64], at: Reader) -> T
     match found {
         Found::Row(i, left) => {
             let m = machines::at(ws, i);
-            if may_join(ws, shard, m.id) {
+            if joining::may_join(ws, shard, m.id) {
                 seat_drawn(ws, shard, i);
                 return Turned::Done(1, left);
             }

@@ -16,7 +16,7 @@ use types::ShardId;
 ghost use mathlib.Core.Path.{_≡_};
 ghost use mathlib.Core.Bool.{true};
 ghost use Prim.Native.Nat.{_<_, _≤_};
-ghost use lib.ListN.{length, getD};
+ghost use lib.ListN.{length, getD, set};
 ghost use Rattle.rules.specs.Table.{Entry, entry, isSome};
 ghost use Rattle.rules.specs.Board.{Board, Reshape, merge, mostReshapes, onReshapes};
 ghost use Rattle.rules.specs.Moves.{isKind, withDrainBy, withQuiet};
@@ -181,6 +181,17 @@ pub fn set_terminal(ws: &mut [u64], i: usize, terminal: Epoch)
 
 // ---- rows
 
+// The row at i, just opened, is that of a reshape just admitted, with no seats.
+fn fill(ws: &mut [u64], i: usize, target: ShardId, merging: bool, admitted: Epoch)
+    requires { ⌜ (length (now ws) ≡ boardSize) × (i < mostReshapes) ⌝ }
+    ensures { λ _. ⌜ ((b : Board) → Holds (now (ws .entry)) b → i < length (b .reshapes) → getD (b .reshapes) i noReshape ≡ noReshape →
+        Holds (now (ws .exit)) (onReshapes (λ t. set t i (entry (target .0) (newlyAdmitted (kindOf merging) (admitted .0)))) b)) ⌝ }
+{
+    let a = RESHAPES_AT + 1 + i * RESHAPE_WIDTH;
+    let e = a + RESHAPE_WIDTH;
+    store_new(&mut ws[a..e], target, merging, admitted);
+}
+
 // A reshape just admitted, with no seats, at i.
 pub fn open(ws: &mut [u64], i: usize, target: ShardId, merging: bool, admitted: Epoch)
     requires { ⌜ (length (now ws) ≡ boardSize) × (i < mostReshapes) ⌝ }
@@ -193,9 +204,7 @@ pub fn open(ws: &mut [u64], i: usize, target: ShardId, merging: bool, admitted: 
         MOST_RESHAPES,
         i,
     );
-    let a = RESHAPES_AT + 1 + i * RESHAPE_WIDTH;
-    let e = a + RESHAPE_WIDTH;
-    store_new(&mut ws[a..e], target, merging, admitted);
+    fill(ws, i, target, merging, admitted);
 }
 
 // The reshape at i goes.

@@ -19,7 +19,7 @@ use Rattle.row_tests.specs.declared.RowKind.the-variants.{Machines, Committees,
 use Rattle.wellformed.specs.Tells.{Tells}
 use Rattle.word_tests.specs.Tests.{between, allPass, anyPass, rises}
 use Rattle.row_tests.specs.Rows.{machineOk, committeeOk, boundaryOk, rotationOk, reshapeOk, kindOk}
-use Rattle.wellformed.specs.Check.{settingsOk, wellFormedWords}
+use Rattle.wellformed.specs.Check.{settingsOk, shardsOk, underwayOk, wellFormedWords}
 use Rattle.word_tests.proofs.Tests.{and-is, or-is, pass-parts, pass-joins}
 use Rattle.word_tests.proofs.Decides.{Words, Decides, table-decides}
 use Rattle.row_tests.proofs.Rows.{between-length, between-words, to-end, machine-decides, committee-decides, boundary-decides, rotation-decides}
@@ -52,16 +52,18 @@ reshapes-decide = table-decides reshapeRow goodReshape reshapeWidth reshapeOk re
 -- ---- the board
 
 board-sound : (t : List ℕ) → Words t → wellFormedWords t ≡ true → WellHeld t
-unfolding wellFormedWords encode wellFormed
+unfolding wellFormedWords shardsOk underwayOk encode wellFormed
 board-sound t ws h =
     let y = pass-parts _ h in
+    let z = pass-parts _ (y .1 .1 .1 .0) in
+    let u = pass-parts _ (y .1 .1 .1 .1 .0) in
     let l : length t ≡ boardSize = eqb-true (length t) boardSize (y .0) in
     let s = settings-decides .sound (between 0 machinesAt t) (between-words 0 machinesAt t ws) (between-length 0 machinesAt t (omega arith)) (y .1 .0) in
     let m = machines-decide .sound (between machinesAt committeesAt t) (between-words machinesAt committeesAt t ws) (between-length machinesAt committeesAt t (omega arith)) (y .1 .1 .0) in
-    let c = committees-decide .sound (between committeesAt boundsAt t) (between-words committeesAt boundsAt t ws) (between-length committeesAt boundsAt t (omega arith)) (y .1 .1 .1 .0) in
-    let b = bounds-decide .sound (between boundsAt rotationsAt t) (between-words boundsAt rotationsAt t ws) (between-length boundsAt rotationsAt t (omega arith)) (y .1 .1 .1 .1 .0) in
-    let o = rotations-decide .sound (between rotationsAt reshapesAt t) (between-words rotationsAt reshapesAt t ws) (between-length rotationsAt reshapesAt t (omega arith)) (y .1 .1 .1 .1 .1 .0) in
-    let r = reshapes-decide .sound (between reshapesAt boardSize t) (between-words reshapesAt boardSize t ws) (between-length reshapesAt boardSize t (omega arith)) (y .1 .1 .1 .1 .1 .1 .0) in
+    let c = committees-decide .sound (between committeesAt boundsAt t) (between-words committeesAt boundsAt t ws) (between-length committeesAt boundsAt t (omega arith)) (z .0) in
+    let b = bounds-decide .sound (between boundsAt rotationsAt t) (between-words boundsAt rotationsAt t ws) (between-length boundsAt rotationsAt t (omega arith)) (z .1 .0) in
+    let o = rotations-decide .sound (between rotationsAt reshapesAt t) (between-words rotationsAt reshapesAt t ws) (between-length rotationsAt reshapesAt t (omega arith)) (u .0) in
+    let r = reshapes-decide .sound (between reshapesAt boardSize t) (between-words reshapesAt boardSize t ws) (between-length reshapesAt boardSize t (omega arith)) (u .1 .0) in
     let v : Board = record { settings = s .value; machines = m .value; committees = c .value; bounds = b .value; rotations = o .value; reshapes = r .value } in
     let good : wellFormed v ≡ true = all-joins _ (s .fine, (m .fine, (c .fine, (b .fine, (o .fine, (r .fine, tt)))))) in
     record {
@@ -85,7 +87,7 @@ part : (a e : ℕ) (t A B : List ℕ) → drop a t ≡ A ++ B → length A ≡ e
 part a e t A B p l = ap (take (e - a)) p ∙ take-at A B (e - a) l
 
 board-complete : (b : Board) → wellFormed b ≡ true → wellFormedWords (encode b) ≡ true
-unfolding wellFormedWords encode wellFormed
+unfolding wellFormedWords shardsOk underwayOk encode wellFormed
 board-complete b g =
     let p = all-parts _ g in
     let S = settingsTable (b .settings) in
@@ -106,26 +108,19 @@ board-complete b g =
     let db : drop boundsAt t ≡ B ++ (O ++ R) = after committeesAt (boundsAt - committeesAt) boundsAt t C (B ++ (O ++ R)) dc lc refl in
     let do' : drop rotationsAt t ≡ O ++ R = after boundsAt (rotationsAt - boundsAt) rotationsAt t B (O ++ R) db lb refl in
     let dr : drop reshapesAt t ≡ R = after rotationsAt (reshapesAt - rotationsAt) reshapesAt t O R do' lo refl in
+    let shards : shardsOk t ≡ true = pass-joins _ (
+      ap (kindOk Committees mostCommittees) (part committeesAt boundsAt t C (B ++ (O ++ R)) dc lc) ∙ committees-decide .complete (b .committees) (p .1 .1 .0),
+      (ap (kindOk Boundaries mostBounds) (part boundsAt rotationsAt t B (O ++ R) db lb) ∙ bounds-decide .complete (b .bounds) (p .1 .1 .1 .0), tt),
+    ) in
+    let underway : underwayOk t ≡ true = pass-joins _ (
+      ap (kindOk Rotations mostRotations) (part rotationsAt reshapesAt t O R do' lo) ∙ rotations-decide .complete (b .rotations) (p .1 .1 .1 .1 .0),
+      (ap (kindOk Reshapes mostReshapes) (to-end reshapesAt boardSize t (omega arith) ∙ dr) ∙ reshapes-decide .complete (b .reshapes) (p .1 .1 .1 .1 .1 .0), tt),
+    ) in
     pass-joins _ (
       eq-eqb _ _ lt,
       (
         ap settingsOk (part 0 machinesAt t S (M ++ (C ++ (B ++ (O ++ R)))) refl ls) ∙ settings-decides .complete (b .settings) (p .0),
-        (
-          ap (kindOk Machines mostMachines) (part machinesAt committeesAt t M (C ++ (B ++ (O ++ R))) dm lm) ∙ machines-decide .complete (b .machines) (p .1 .0),
-          (
-            ap (kindOk Committees mostCommittees) (part committeesAt boundsAt t C (B ++ (O ++ R)) dc lc) ∙ committees-decide .complete (b .committees) (p .1 .1 .0),
-            (
-              ap (kindOk Boundaries mostBounds) (part boundsAt rotationsAt t B (O ++ R) db lb) ∙ bounds-decide .complete (b .bounds) (p .1 .1 .1 .0),
-              (
-                ap (kindOk Rotations mostRotations) (part rotationsAt reshapesAt t O R do' lo) ∙ rotations-decide .complete (b .rotations) (p .1 .1 .1 .1 .0),
-                (
-                  ap (kindOk Reshapes mostReshapes) (to-end reshapesAt boardSize t (omega arith) ∙ dr) ∙ reshapes-decide .complete (b .reshapes) (p .1 .1 .1 .1 .1 .0),
-                  tt,
-                ),
-              ),
-            ),
-          ),
-        ),
+        (ap (kindOk Machines mostMachines) (part machinesAt committeesAt t M (C ++ (B ++ (O ++ R))) dm lm) ∙ machines-decide .complete (b .machines) (p .1 .0), (shards, (underway, tt))),
       ),
     )
 

@@ -26,14 +26,20 @@ numbersOk t =
 unfoldable pub settingsOk : List ℕ → Bool
 settingsOk t = allPass (eqb (at t 0) 6 ∷ numbersOk t ∷ allZero (between 7 machinesAt t) ∷ [])
 
+-- what a shard has
+unfoldable pub shardsOk : List ℕ → Bool
+shardsOk t = allPass (kindOk Committees mostCommittees (between committeesAt boundsAt t) ∷ kindOk Boundaries mostBounds (between boundsAt rotationsAt t) ∷ [])
+
+-- what is under way
+unfoldable pub underwayOk : List ℕ → Bool
+underwayOk t = allPass (kindOk Rotations mostRotations (between rotationsAt reshapesAt t) ∷ kindOk Reshapes mostReshapes (between reshapesAt boardSize t) ∷ [])
+
 unfoldable pub wellFormedWords : List ℕ → Bool
 wellFormedWords t =
     allPass
     (eqb (length t) boardSize
     ∷ settingsOk (between 0 machinesAt t)
     ∷ kindOk Machines mostMachines (between machinesAt committeesAt t)
-    ∷ kindOk Committees mostCommittees (between committeesAt boundsAt t)
-    ∷ kindOk Boundaries mostBounds (between boundsAt rotationsAt t)
-    ∷ kindOk Rotations mostRotations (between rotationsAt reshapesAt t)
-    ∷ kindOk Reshapes mostReshapes (between reshapesAt boardSize t)
+    ∷ shardsOk t
+    ∷ underwayOk t
     ∷ [])

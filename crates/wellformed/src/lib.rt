@@ -22,12 +22,12 @@ ghost use mathlib.Core.Bool.{false};
 ghost use Prim.Native.Nat.{_≤_};
 ghost use lib.ListN.{length};
 ghost use Rattle.rules.specs.Board.{mostMachines};
-ghost use Rattle.board.specs.Layout.{machineWidth, machinesAt};
+ghost use Rattle.board.specs.Layout.{machineWidth, machinesAt, boardSize};
 ghost use Rattle.word_tests.specs.Tests.{rises, firstOk};
 ghost use Rattle.row_tests.specs.declared.RowKind.the-variants.{Machines};
 ghost use Rattle.row_tests.specs.Rows.{machineOk, rowOk, inPairs, widthOf, Shape, kindOk};
 ghost use Rattle.wellformed.specs.Tells.{Tells};
-ghost use Rattle.wellformed.specs.Check.{numbersOk, settingsOk};
+ghost use Rattle.wellformed.specs.Check.{numbersOk, settingsOk, shardsOk, underwayOk};
 
 // ---- The ranges of rules/specs/Board.antt
 
@@ -128,6 +128,34 @@ pub fn settings_ok(t: &[u64]) -> bool
     (t[0] == SETTINGS_COUNT) & numbers_ok(t) & word_tests::all_zero(&t[SETTINGS_END..MACHINES_AT])
 }
 
+// What a shard has: committees and boundaries.
+fn shards_ok(board: &[u64]) -> bool
+    requires { ⌜ length (now board) ≡ boardSize ⌝ }
+    ensures { λ r. ⌜ r ≡ shardsOk (now (board .entry)) ⌝ }
+{
+    let c = &board[COMMITTEES_AT..BOUNDS_AT];
+    let b = &board[BOUNDS_AT..ROTATIONS_AT];
+    table_ok(
+        RowKind::Committees,
+        COMMITTEE_WIDTH,
+        false,
+        MOST_COMMITTEES,
+        c,
+    )
+        & table_ok(RowKind::Boundaries, BOUNDARY_WIDTH, false, MOST_BOUNDS, b)
+}
+
+// What is under way: rotations and reshapes.
+fn underway_ok(board: &[u64]) -> bool
+    requires { ⌜ length (now board) ≡ boardSize ⌝ }
+    ensures { λ r. ⌜ r ≡ underwayOk (now (board .entry)) ⌝ }
+{
+    let o = &board[ROTATIONS_AT..RESHAPES_AT];
+    let r = &board[RESHAPES_AT..BOARD_SIZE];
+    table_ok(RowKind::Rotations, ROTATION_WIDTH, true, MOST_ROTATIONS, o)
+        & table_ok(RowKind::Reshapes, RESHAPE_WIDTH, false, MOST_RESHAPES, r)
+}
+
 // Whether the words, of any length, are those of a well-formed board.
 pub fn well_formed(board: &[u64]) -> bool
     ensures { λ r. ⌜ Tells (now (board .entry)) r ⌝ }
@@ -135,21 +163,8 @@ pub fn well_formed(board: &[u64]) -> bool
     if board.len() != BOARD_SIZE {
         return false;
     }
-    let m = &board[MACHINES_AT..COMMITTEES_AT];
-    let c = &board[COMMITTEES_AT..BOUNDS_AT];
-    let b = &board[BOUNDS_AT..ROTATIONS_AT];
-    let o = &board[ROTATIONS_AT..RESHAPES_AT];
-    let r = &board[RESHAPES_AT..BOARD_SIZE];
     settings_ok(&board[0..MACHINES_AT])
-        & machines_ok(m)
-        & table_ok(
-            RowKind::Committees,
-            COMMITTEE_WIDTH,
-            false,
-            MOST_COMMITTEES,
-            c,
-        )
-        & table_ok(RowKind::Boundaries, BOUNDARY_WIDTH, false, MOST_BOUNDS, b)
-        & table_ok(RowKind::Rotations, ROTATION_WIDTH, true, MOST_ROTATIONS, o)
-        & table_ok(RowKind::Reshapes, RESHAPE_WIDTH, false, MOST_RESHAPES, r)
+        & machines_ok(&board[MACHINES_AT..COMMITTEES_AT])
+        & shards_ok(board)
+        & underway_ok(board)
 }

@@ -1,7 +1,7 @@
-use mathlib.Core.Path.{sym}
+use mathlib.Core.Path.{sym, _∙_}
 use Rattle.board.proofs.Fitting.{held-as}
 use Rattle.board.proofs.Moves.{join-at}
-use Rattle.arriving.proofs.Comes.{joins-room}
+use Rattle.joining.proofs.Joins.{stands-row, joins-room}
 use borrow.Author.Needs.{needs}
 use Rattle.arriving.proofs.join_near.Statement.{statement}
 use Rattle.arriving.proofs.join_near.Tie as tie
@@ -12,7 +12,7 @@ push-member-requires c κs = (c .before .before .before .before .before .pre, c 
 returns : tie.Need-returns
 returns c =
     λ b h r m.
-    let t = c .before .before .before .before .before .stands-at .ensures .1 b h (c .before .before .before .before .if1 .taken) in
+    let t = stands-row b _ _ (sym (c .before .before .before .before .before .stands-at .ensures .1 b h) ∙ c .before .before .before .before .if1 .taken) in
     held-as _ _ _ (sym (join-at b _ _ r (t .0) (t .1) _)) (c .before .before .push-member .ensures b h (t .0) (joins-room b _ _ _ r (t .0) (t .1) m))
 
 pub join-near-spec : {M : Type 1} → statement M

@@ -1,7 +1,7 @@
 use mathlib.Core.Path.{ap}
 use Rattle.types.specs.declared.Machine.{Machine}
 use Rattle.board.proofs.Keyed.{machines-rise, committees-rise}
-use Rattle.pool.proofs.Placed.{placed-rise, placed-may}
+use Rattle.joining.proofs.Placed.{placed-rise, placed-may}
 use Rattle.arriving.proofs.Comes.{put-held}
 use borrow.Author.Needs.{needs}
 use Rattle.arriving.proofs.put_on.Statement.{statement}

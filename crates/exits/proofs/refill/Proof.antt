@@ -3,7 +3,7 @@ use mathlib.Core.Bool.{false}
 use Rattle.types.specs.declared.Machine.{Machine}
 use Rattle.board.proofs.Keyed.{committees-rise}
 use Rattle.pool.proofs.Draws.{turn-missing, turn-large, turn-nobody, turn-no-room, turn-seats}
-use Rattle.pool.proofs.Struck.{left-rows, left-key, left-well}
+use Rattle.joining.proofs.Struck.{left-rows, left-key, left-well}
 use Rattle.exits.proofs.Leaves.{drawn-left}
 use borrow.Author.Needs.{needs}
 use Rattle.exits.proofs.refill.Statement.{statement}

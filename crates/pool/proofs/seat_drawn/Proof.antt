@@ -1,7 +1,7 @@
 use mathlib.Core.Path.{ap}
 use Rattle.types.specs.declared.Machine.{Machine}
 use Rattle.board.proofs.Keyed.{machines-rise, committees-rise}
-use Rattle.pool.proofs.Placed.{placed-rise, placed-may, seated}
+use Rattle.joining.proofs.Placed.{placed-rise, placed-may, seated}
 use borrow.Author.Needs.{needs}
 use Rattle.pool.proofs.seat_drawn.Statement.{statement}
 use Rattle.pool.proofs.seat_drawn.Tie as tie

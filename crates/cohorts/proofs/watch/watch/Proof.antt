@@ -3,7 +3,7 @@ use Rattle.types.specs.Places.{setToWatch}
 use Rattle.rules.specs.Board.{epochOf}
 use Rattle.rules.specs.Moves.{place, join}
 use Rattle.board.proofs.Keyed.{committees-rise, reshapes-rise, seats-rise}
-use Rattle.pool.proofs.Placed.{placed-rise, placed-may}
+use Rattle.joining.proofs.Placed.{placed-rise, placed-may}
 use Rattle.cohorts.proofs.Watches.{watched}
 use Rattle.cohorts.proofs.watch.watch.Statement.{statement}
 use Rattle.cohorts.proofs.watch.watch.Tie as tie

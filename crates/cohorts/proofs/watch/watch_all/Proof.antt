@@ -10,7 +10,7 @@ use Rattle.rules.specs.Moves.{mayJoin}
 use Rattle.rules.specs.Reshapes.{halfUp}
 use Rattle.board.specs.Held.{Holds, noReshape}
 use Rattle.lapses.proofs.Lapses.{seatsAt}
-use Rattle.cohorts.proofs.Watches.{size-is, Watched, none-watched, one-watched, all-watched}
+use Rattle.cohorts.proofs.Watches.{Watched, none-watched, one-watched, all-watched}
 use Rattle.cohorts.proofs.watch.watch_all.Statement.{statement}
 use Rattle.cohorts.proofs.watch.watch_all.Tie as tie
 
@@ -25,7 +25,7 @@ abbrev μ-loop : tie.MeasureT-loop
 loop-holds : tie.Need-loop-holds Inv-loop μ-loop
 loop-holds c = (
   refl,
-  λ b h ok l e empty good may. (ap halfUp (size-is b ok _ _ (c .before .shard-size .ensures b h) (c .rows-within .ensures .1)), none-watched _ _ _ b _ h ok l e empty good may),
+  λ b h ok l e empty good may. (ap halfUp (c .cohort-size .ensures .1 b h ok), none-watched _ _ _ b _ h ok l e empty good may),
 )
 
 loop-again : tie.Need-loop-again Inv-loop μ-loop
@@ -45,7 +45,6 @@ watch-all-spec =
     (tie.spec
     Inv-loop
     μ-loop
-    (λ c κs. search needs)
     (λ c κs. search needs)
     (λ c. search needs)
     loop-holds

@@ -1,9 +1,9 @@
 use mathlib.Core.Path.{ap}
 use Rattle.types.specs.declared.Machine.{Machine}
-use Rattle.pool.proofs.Placed.{placed}
+use Rattle.joining.proofs.Placed.{placed}
 use borrow.Author.Needs.{needs}
-use Rattle.pool.proofs.put_place.Statement.{statement}
-use Rattle.pool.proofs.put_place.Tie as tie
+use Rattle.joining.proofs.put_place.Statement.{statement}
+use Rattle.joining.proofs.put_place.Tie as tie
 
 returns : tie.Need-returns
 returns c = λ b h r l.

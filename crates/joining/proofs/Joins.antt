@@ -3,25 +3,48 @@ use Prim.Native.Nat.{ℕ, _+_, _≤_, _<_}
 use mathlib.Core.Path.{_≡_, refl, ap, sym, _∙_}
 use mathlib.Core.List.{List, [], _∷_, _++_}
 use mathlib.Core.Option.{Option, none, some}
-use mathlib.Core.Bool.{Bool, true, false, true≢false, false≢true}
+use mathlib.Core.Bool.{Bool, true, false, true≢false}
 use native.Mathlib.Omega.{arith}
 use native.Mathlib.Numerals.{add-one}
-use borrow.Author.Tests.{ltb-true}
+use borrow.Author.Tests.{ltb-true, ltb-false, le-ltb}
 use lib.Dec.{eqb, leb, ltb}
 use lib.ListN.{length, getD}
 use Rattle.types.specs.Numbers.{Id}
 use Rattle.rules.specs.Lists.{_and_, _or_, every, any, has}
-use Rattle.rules.specs.Table.{Entry, entry, Table, isSome, at, stands, put}
+use Rattle.rules.specs.Table.{Entry, entry, isSome, at, stands}
 use Rattle.rules.specs.Board.{Board, mostCommittees, mostMembers, onCommittees}
 use Rattle.rules.specs.Moves.{membersOf, mayJoin, join}
 use Rattle.rules.proofs.Counts.{Alike, same, apart, alike}
-use Rattle.rules.proofs.Tests.{and-parts, le-of}
+use Rattle.rules.proofs.Tests.{and-parts, le-of, eq-of}
 use Rattle.tables.specs.Rows.{Rising, keyOf, placeOf, insertAt}
-use Rattle.tables.proofs.Keys.{first-most, at-is, at-is-none, place-is, put-is-insertAt}
+use Rattle.tables.proofs.Keys.{first-most, at-is, at-is-none}
 use Rattle.board.specs.Held.{Holds, noCommittee}
 use Rattle.board.specs.Leaves.{changeAt}
-use Rattle.board.proofs.Keyed.{put-is-change}
-use Rattle.board.proofs.Fitting.{held-as, insert-at, set-insert, insert-length}
+use Rattle.board.proofs.Fitting.{held-as, insert-at, insert-length}
+use Rattle.board.proofs.Moves.{members-at, join-at, join-none}
+use Rattle.board.proofs.Moves as moves
+use Rattle.joining.specs.Stands.{standsAt}
+
+-- ---- a committee that is found at row j
+
+module _ (b : Board) (s j : ℕ) where
+  pub stands-row : standsAt j s b ≡ true → (j < length (b .committees)) × (getD (b .committees) j noCommittee .key ≡ s)
+  unfolding standsAt
+  stands-row q = let p = and-parts _ _ q in (ltb-true _ _ (p .0), eq-of _ _ (p .1))
+
+  pub none-past : length (b .committees) ≤ j → false ≡ standsAt j s b
+  unfolding standsAt _and_
+  none-past l = rw (le-ltb j (length (b .committees)) l)
+
+-- what 11 asked: it has room
+pub joins-room : (b : Board) (s x j : ℕ) → Rising keyOf (b .committees) → j < length (b .committees) → getD (b .committees) j noCommittee .key ≡ s → mayJoin s (x ∷ []) b ≡ true
+    → length (getD (b .committees) j noCommittee .val) < mostMembers
+unfolding mayJoin
+joins-room b s x j r l e m =
+    let f : leb (length (membersOf s b) + 1) mostMembers ≡ true = and-parts _ _ (and-parts _ _ m .1) .1 in
+    omega (arith, ap length (members-at b s j r l e), le-of (length (membersOf s b) + 1) mostMembers f)
+
+-- ---- row j, where the shard's committee stands or goes
 
 module _ (b : Board) (s : ℕ) (r : Rising keyOf (b .committees)) (j : ℕ) (je : j ≡ placeOf keyOf s (b .committees)) where
   abbrev row : Entry (List Id)
@@ -42,30 +65,32 @@ module _ (b : Board) (s : ℕ) (r : Rising keyOf (b .committees)) (j : ℕ) (je 
   none-if : (j < length (b .committees) → row .key ≡ s → ⊥) → at s (b .committees) ≡ none
   none-if z = at-is-none (b .committees) r s noCommittee (rw je at z)
 
-  pub stands-past : length (b .committees) ≤ j → false ≡ stands s (b .committees)
+  stands-past : length (b .committees) ≤ j → false ≡ stands s (b .committees)
   unfolding stands isSome
   stands-past l = sym (ap isSome (none-if (λ h e. omega arith)))
 
-  pub stands-if : (x : ℕ) → j < length (b .committees) → x ≡ row .key → eqb x s ≡ stands s (b .committees)
+  stands-here : j < length (b .committees) → eqb (row .key) s ≡ stands s (b .committees)
   unfolding stands isSome
-  stands-if x l e = go (alike x s)
+  stands-here l = go (alike (row .key) s)
     where
-      go : Alike x s → eqb x s ≡ isSome (at s (b .committees))
-      go (same p u) = u ∙ sym (ap isSome (at-is (b .committees) r s j noCommittee l (sym e ∙ p)))
-      go (apart p u) = u ∙ sym (ap isSome (none-if (λ h q. p (e ∙ q))))
+      go : Alike (row .key) s → eqb (row .key) s ≡ isSome (at s (b .committees))
+      go (same p u) = u ∙ sym (ap isSome (at-is (b .committees) r s j noCommittee l p))
+      go (apart p u) = u ∙ sym (ap isSome (none-if (λ h q. p q)))
+
+  pub stands-is : standsAt j s b ≡ stands s (b .committees)
+  unfolding standsAt _and_
+  stands-is = go (ltb j (length (b .committees))) refl
+    where
+      go : (c : Bool) → ltb j (length (b .committees)) ≡ c → (c and eqb (row .key) s) ≡ stands s (b .committees)
+      go true l = stands-here (ltb-true _ _ l)
+      go false l = stands-past (ltb-false _ _ l)
 
   module _ (q : stands s (b .committees) ≡ true) where
     pub row-here : (j < length (b .committees)) × (row .key ≡ s)
-    unfolding stands isSome
-    row-here = go (at s (b .committees)) refl q
-      where
-        go : (o : Option (List Id)) → at s (b .committees) ≡ o → isSome o ≡ true → (j < length (b .committees)) × (row .key ≡ s)
-        go none e y = absurd (false≢true y)
-        go (some v) e y = let p = place-is (b .committees) r s v noCommittee e in rw je (p .0, ap (λ (n : Entry (List Id)). n .key) (p .1))
+    row-here = stands-row b s j (stands-is ∙ q)
 
     pub members-are : membersOf s b ≡ row .val
-    unfolding membersOf
-    members-are = rw (membersOf, at-is (b .committees) r s j noCommittee (row-here .0) (row-here .1))
+    members-are = members-at b s j r (row-here .0) (row-here .1)
 
   module _ (q : stands s (b .committees) ≡ false) where
     none-there : at s (b .committees) ≡ none
@@ -77,8 +102,7 @@ module _ (b : Board) (s : ℕ) (r : Rising keyOf (b .committees)) (j : ℕ) (je 
         go (some v) y = absurd (true≢false y)
 
     pub members-none : membersOf s b ≡ []
-    unfolding membersOf
-    members-none = rw (membersOf, none-there)
+    members-none = moves.members-none b s none-there
 
   -- ---- what is asked before
 
@@ -93,10 +117,7 @@ module _ (b : Board) (s : ℕ) (r : Rising keyOf (b .committees)) (j : ℕ) (je 
       join-room h = rw (q, members-are q, h, add-one)
 
       pub join-fits : mayJoin s (x ∷ []) b ≡ true → length (row .val) < mostMembers
-      unfolding mayJoin
-      join-fits m =
-          let f : leb (length (membersOf s b) + 1) mostMembers ≡ true = and-parts _ _ (and-parts _ _ m .1) .1 in
-          omega (arith, ap length (members-are q), le-of (length (membersOf s b) + 1) mostMembers f)
+      join-fits m = joins-room b s x j r (row-here q .0) (row-here q .1) m
 
     module _ (q : stands s (b .committees) ≡ false) where
       pub join-opens : ltb (length (b .committees)) mostCommittees ≡ mayJoin s (x ∷ []) b
@@ -117,13 +138,8 @@ module _ (b : Board) (s : ℕ) (r : Rising keyOf (b .committees)) (j : ℕ) (je 
     -- ---- the board after
 
     pub joined-row : stands s (b .committees) ≡ true → (after : List ℕ) → Holds after (onCommittees (changeAt noCommittee j (λ l. l ++ (x ∷ []))) b) → Holds after (join s x b)
-    unfolding join
-    joined-row q after h = rw (members-are q, put-is-change (b .committees) r s j noCommittee (row-here q .0) (row-here q .1) (row .val ++ (x ∷ []))) h
+    joined-row q after h = held-as after _ _ (sym (join-at b s j r (row-here q .0) (row-here q .1) x)) h
 
     pub joined-new : stands s (b .committees) ≡ false → (after : List ℕ)
         → Holds after (onCommittees (λ t. changeAt noCommittee j (λ l. l ++ (x ∷ [])) (insertAt t j (entry s []))) b) → Holds after (join s x b)
-    unfolding join
-    joined-new q after h =
-        let e : changeAt noCommittee j (λ l. l ++ (x ∷ [])) (insertAt (b .committees) j (entry s [])) ≡ put s (membersOf s b ++ (x ∷ [])) (b .committees) =
-        rw (insert-at (b .committees) j (entry s []) noCommittee place-most, set-insert (b .committees) j (entry s []) (entry s (x ∷ [])) place-most, members-none q, put-is-insertAt (b .committees) r s (x ∷ []) (none-there q), je) in
-        held-as after _ _ (ap (λ (t : Table (List Id)). onCommittees (λ _. t) b) e) h
+    joined-new q after h = held-as after _ _ (sym (rw (sym je) at (join-none b s (none-there q) x r))) h
