@@ -65,7 +65,7 @@ fn awaits_cohort(board: &[u64], i: usize) -> bool
     seats::count(board, i) == 0
 }
 
-// The row of the target's split, if it awaits its cohort; else 16, past every row.
+// The row of the target's split, if it awaits its cohort; else 8, past every row.
 fn awaiting_row(board: &[u64], target: ShardId) -> usize
     requires { ⌜ length (now board) ≡ boardSize ⌝ }
     ensures { λ r. ⌜ ((b : Board) → Holds (now (board .entry)) b → wellFormed b ≡ true → Awaiting (target .0) b r) ⌝ }
