@@ -9,10 +9,10 @@ use borrow.Rule.Slice.PartMut.{putMid}
 use Rattle.rules.specs.Table.{entry}
 use Rattle.rules.specs.Board.{Board, mostMachines, mostCommittees, mostMembers, mostBounds, mostRotations, mostReshapes, onSettings, onMachines, onCommittees, onBounds, onRotations, onReshapes}
 use Rattle.rules.specs.Snapshot.{machineWords, boundaryWords, rotationWords}
-use Rattle.tables.specs.Rows.{table, idTable, insertAt, removeAt, Rising, placeOf, without, Row, wordsIn, keyIn}
+use Rattle.tables.specs.Rows.{table, idTable, insertAt, removeAt, Rising, placeOf, rowOf, without, Row, wordsIn, keyIn}
 use Rattle.shifts.proofs.Parts.{Spot, spot-read, spot-put, spot-word, spot-store, within}
 use Rattle.tables.proofs.Tables.{table-length, row-spot}
-use Rattle.tables.proofs.Typed.{opened-as, removed-as, dropped-as, placed-as}
+use Rattle.tables.proofs.Typed.{opened-as, removed-as, dropped-as, placed-as, rowed-as}
 use Rattle.board.specs.Layout.{machineWidth, committeeWidth, boundaryWidth, rotationWidth, membersAt, reshapeWidth, machinesAt, committeesAt, boundsAt, rotationsAt, reshapesAt, boardSize, committeeRow, reshapeRow, settingsTable, machineTable, committeeTable, boundaryTable, rotationTable, reshapeTable, encode}
 use Rattle.board.specs.Held.{Fits, Holds}
 use Rattle.board.proofs.Widths.{machine-wide, committee-wide, boundary-wide, rotation-wide, reshape-wide, settings-wide, board-wide}
@@ -41,12 +41,17 @@ module _ {A : Type 0} {f : A → List ℕ} {w cap o : ℕ} {get : Board → List
   pub section-back : (xs : List A) (p : List ℕ) → p ≡ table f w cap xs → putMid o (1 + cap * w) ws p ≡ encode (put xs b)
   section-back xs p g = spot-put (s .spot b) (get b) xs ws p o (1 + cap * w) whole refl (table-length f w cap (get b)) g
 
-  -- what `place_of`, `open_row`, `remove_row` and `drop_rows` make of the section
+  -- what `place_of`, `row_of`, `open_row`, `remove_row` and `drop_rows` make of the section
   module _ (key : A → ℕ) (first : (x : A) → getD (f x) 0 0 ≡ key x) where
     pub section-place : (k r : ℕ) → Rising key (get b)
         → ((rs : List (Row w)) → take (1 + cap * w) (drop o ws) ≡ table wordsIn w cap rs → length rs ≤ cap → Rising keyIn rs → r ≡ placeOf keyIn k rs)
         → r ≡ placeOf key k (get b)
     section-place k r q g = placed-as f w (s .wide) cap (get b) _ [] section-lent key first k r (s .room b (h .fits)) q g
+
+    pub section-row : (k r : ℕ) → Rising key (get b)
+        → ((rs : List (Row w)) → take (1 + cap * w) (drop o ws) ≡ table wordsIn w cap rs → length rs ≤ cap → Rising keyIn rs → r ≡ rowOf keyIn cap k rs)
+        → r ≡ rowOf key cap k (get b)
+    section-row k r q g = rowed-as f w (s .wide) cap (get b) _ [] section-lent key first k r (s .room b (h .fits)) q g
 
     pub section-dropped : (k : ℕ) (u : List ℕ)
         → ((rs : List (Row w)) → take (1 + cap * w) (drop o ws) ≡ table wordsIn w cap rs → length rs ≤ cap → u ≡ table wordsIn w cap (without keyIn k rs))

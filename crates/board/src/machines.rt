@@ -1,21 +1,18 @@
 // The table of machines, by rising id.
-use super::layout::COMMITTEES_AT;
 use super::layout::MACHINE_WIDTH;
 use super::layout::MACHINES_AT;
-use super::layout::MOST_MACHINES;
 use types::Epoch;
 use types::Machine;
 use types::Place;
 use types::ShardId;
 use types::ValidatorId;
 ghost use mathlib.Core.Path.{_≡_};
-ghost use Prim.Native.Nat.{_<_, _≤_};
+ghost use Prim.Native.Nat.{_<_};
 ghost use lib.ListN.{length, getD, set};
 ghost use Rattle.rules.specs.Lists.{bitOf};
 ghost use Rattle.rules.specs.Table.{Entry};
 ghost use Rattle.rules.specs.Board.{Board, onMachines, machineOf, mostMachines};
 ghost use Rattle.rules.specs.Snapshot.{placeOf, machineWords};
-ghost use Rattle.tables.specs.Rows as rows;
 ghost use Rattle.board.specs.Layout.{boardSize, machineWidth};
 ghost use Rattle.board.specs.Held.{Holds, noMachine};
 ghost use Rattle.board.specs.Leaves.{codeOf, markOf, readyOf, stampOf, machineEntry};
@@ -157,17 +154,4 @@ pub fn put(ws: &mut [u64], i: usize, m: Machine)
     let a = MACHINES_AT + 1 + i * MACHINE_WIDTH;
     let e = a + MACHINE_WIDTH;
     store(&mut ws[a..e], m);
-}
-
-// Where the machine of an id stands, or would.
-pub fn place_of(ws: &[u64], id: ValidatorId) -> usize
-    requires { ⌜ length (now ws) ≡ boardSize ⌝ }
-    ensures { λ r. ⌜ (r ≤ mostMachines) × ((b : Board) → Holds (now (ws .entry)) b → rows.Rising rows.keyOf (b .machines) → r ≡ rows.placeOf rows.keyOf (id .0) (b .machines)) ⌝ }
-{
-    tables::place_of(
-        &ws[MACHINES_AT..COMMITTEES_AT],
-        MACHINE_WIDTH,
-        MOST_MACHINES,
-        id.0,
-    )
 }

@@ -1,19 +1,18 @@
 -- Ready seats and the plan of a drain, as the code has them at a row.
-use Prim.Native.Nat.{ℕ, _≤_, _<_}
+use Prim.Native.Nat.{ℕ, _≤_}
 use mathlib.Core.Path.{_≡_, refl, sym, _∙_}
 use mathlib.Core.List.{List, [], _∷_}
 use mathlib.Core.Option.{Option, none, some}
 use mathlib.Core.Bool.{Bool, true, false, cond, not, _&&_, false≢true}
 use lib.Dec.{eqb}
-use lib.ListN.{length, getD}
+use lib.ListN.{getD}
 use Rattle.types.specs.Numbers.{Shard, Id, Epoch}
-use Rattle.types.specs.Shards.{leftOf, rightOf}
 use Rattle.types.specs.declared.ShardId.{ShardId}
 use Rattle.types.specs.declared.Answer.the-variants.{NoBoundary}
-use Rattle.rules.specs.Lists.{_and_, every}
-use Rattle.rules.specs.Table.{Entry, isSome, at, stands, update}
+use Rattle.rules.specs.Lists.{_and_}
+use Rattle.rules.specs.Table.{Entry, isSome, at, update}
 use Rattle.rules.specs.Board as rules
-use Rattle.rules.specs.Board.{Kind, split, merge, Reshape, Board, lastTarget, onReshapes, sizeOf}
+use Rattle.rules.specs.Board.{split, merge, Reshape, Board, lastTarget, onReshapes, sizeOf}
 use Rattle.rules.specs.WellFormed.{isTarget, goodSettings, wellFormed}
 use Rattle.rules.specs.Moves.{withDrainBy, isKind, boundsStand}
 use Rattle.rules.specs.Turns.{Turn, finished, refused, _gives_, checked}
@@ -23,11 +22,11 @@ use Rattle.rules.proofs.KeptBoard.{good-of, fit-at}
 use Rattle.rules.proofs.SeatsMoves.{kind-is}
 use Rattle.tables.proofs.Bools.{and-is}
 use Rattle.tables.proofs.Keys.{at-is}
-use Rattle.board.specs.Held.{noBoundary, noReshape}
-use Rattle.board.proofs.Keyed.{bounds-rise, reshapes-rise}
-use Rattle.reshapes.specs.Changes.{seatEntry}
+use Rattle.board.specs.Held.{noReshape}
+use Rattle.board.proofs.Keyed.{reshapes-rise}
+use Rattle.reshapes.specs.Changes.{seatEntry, kindOf}
 use Rattle.reshapes.specs.declared.seats.Seat.{Seat}
-use Rattle.moves.proofs.Exiting.{kind-split}
+use Rattle.moves.proofs.Exiting.{kind-split, kind-told}
 use Rattle.drains.specs.declared.Whose.{Whose}
 use Rattle.drains.specs.declared.Whose.the-variants.{All, Of}
 use Rattle.drains.specs.declared.Plan.{Plan}
@@ -67,34 +66,12 @@ module _ (r : Reshape) (l : Bool) (e : l ≡ r .quietLeft) where
   unfolding isQuiet
   quiet-one k = rw (k, isQuiet) e
 
--- ---- boundaries
-
-module _ (b : Board) (s : Shard) where
-  pub stands-not : at s (b .bounds) ≡ none → false ≡ stands s (b .bounds)
-  unfolding stands isSome
-  stands-not n = rw n
-
-  pub stands-here : wellFormed b ≡ true → (i : ℕ) → i < length (b .bounds) → getD (b .bounds) i noBoundary .key ≡ s → true ≡ stands s (b .bounds)
-  unfolding stands isSome
-  stands-here ok i l e = rw (at-is (b .bounds) (bounds-rise b ok) s i noBoundary l e)
-
-pub and-end : (c : Bool) → (c and true) ≡ c
-unfolding _and_
-and-end true = refl
-and-end false = refl
-
-module _ (t : Shard) (b : Board) (k : Kind) where
-  pub stand-both : k ≡ merge → (l r : Bool) → l ≡ stands (leftOf t) (b .bounds) → r ≡ stands (rightOf t) (b .bounds) → (l && r) ≡ boundsStand k t b
-  unfolding boundsStand every
-  stand-both m l r e f = and-is l r ∙ rw (m, ← e, ← f, and-end r)
-
-  pub stand-one : k ≡ split → (c : Bool) → c ≡ stands t (b .bounds) → c ≡ boundsStand k t b
-  unfolding boundsStand every
-  stand-one m c e = rw (m, ← e, and-end c)
-
 -- ---- the plan
 
 module _ (t : Shard) (r : Reshape) (b : Board) where
+  pub bounds-of : (m : Bool) → m ≡ isKind merge r → (c : Bool) → c ≡ boundsStand (kindOf m) t b → c ≡ boundsStand (r .kind) t b
+  bounds-of m e c s = rw (← kind-told r m e) s
+
   pub plan-stamp : isSome (r .drainBy) ≡ false → Stamp ≡ planOf t r b
   plan-stamp n = rw n
 

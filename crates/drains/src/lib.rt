@@ -17,10 +17,10 @@ ghost use lib.Dec.{leb};
 ghost use lib.ListN.{length, getD};
 ghost use Rattle.types.specs.Numbers.{Shard};
 ghost use Rattle.types.specs.Shards.{quorum};
-ghost use Rattle.rules.specs.Table.{stands, update, countWhere};
+ghost use Rattle.rules.specs.Table.{update, countWhere};
 ghost use Rattle.rules.specs.Board.{Board, mostReshapes, mostSeats, lastEpoch, lastTarget, onBounds, onReshapes, sizeOf};
 ghost use Rattle.rules.specs.WellFormed.{isStamp, wellFormed};
-ghost use Rattle.rules.specs.Moves.{forAll, withDrainBy, oldShards, boundsStand, markedBoundary};
+ghost use Rattle.rules.specs.Moves.{forAll, withDrainBy, oldShards, markedBoundary};
 ghost use Rattle.rules.specs.Schedule.{isQuiet, scheduled, drainEnd};
 ghost use Rattle.board.specs.Layout.{boardSize};
 ghost use Rattle.board.specs.Held.{Holds, noReshape, noSeat};
@@ -101,30 +101,6 @@ fn is_quiet(board: &[u64], i: usize) -> bool
     left
 }
 
-fn has_bound(board: &[u64], shard: ShardId) -> bool
-    requires { ⌜ length (now board) ≡ boardSize ⌝ }
-    ensures { λ r. ⌜ ((b : Board) → Holds (now (board .entry)) b → wellFormed b ≡ true → r ≡ stands (shard .0) (b .bounds)) ⌝ }
-{
-    if MOST_BOUNDS <= rows::bound_row(board, shard) {
-        return false;
-    }
-    true
-}
-
-// The shards that live before the cut have their boundaries: a split's target, both children of a merge.
-fn bounds_stand(board: &[u64], target: ShardId, i: usize) -> bool
-    requires { ⌜ (length (now board) ≡ boardSize) × (i < mostReshapes) × (target .0 ≤ lastTarget) ⌝ }
-    ensures { λ r. ⌜ ((b : Board) → Holds (now (board .entry)) b → wellFormed b ≡ true → i < length (b .reshapes) →
-        r ≡ boundsStand (getD (b .reshapes) i noReshape .val .kind) (target .0) b) ⌝ }
-{
-    let merging = fields::is_merge(board, i);
-    if merging {
-        let left = has_bound(board, target.left());
-        return left & has_bound(board, target.right());
-    }
-    has_bound(board, target)
-}
-
 // What the reshape of the target, at i, is due.
 pub fn plan_at(board: &[u64], target: ShardId, i: usize) -> Plan
     requires { ⌜ (length (now board) ≡ boardSize) × (i < mostReshapes) × (target .0 ≤ lastTarget) ⌝ }
@@ -137,7 +113,8 @@ pub fn plan_at(board: &[u64], target: ShardId, i: usize) -> Plan
     if !is_quiet(board, i) {
         return Plan::Wait;
     }
-    if bounds_stand(board, target, i) {
+    let merging = fields::is_merge(board, i);
+    if families::bounds_stand(board, merging, target) {
         return Plan::Schedule;
     }
     Plan::Unbounded

@@ -20,6 +20,7 @@ use Rattle.rules.specs.Turns.{Turn, refused, checked}
 use Rattle.rules.specs.Reshapes.{familyFree, admissionFaults}
 use Rattle.rules.proofs.Counts.{Alike, same, apart, alike}
 use Rattle.rules.proofs.Tests.{and-parts, of-not, le-of}
+use Rattle.tables.proofs.Bools.{and-is, and-end}
 use Rattle.board.specs.Held.{noReshape}
 use Rattle.pool.proofs.Pools.{keys-none, keys-here}
 use Rattle.reshapes.specs.Changes.{kindOf}
@@ -144,21 +145,12 @@ module _ (t : Shard) (b : Board) (m : Bool) where
         go false y z = refl
 
   pub merge-bounds : m ≡ true → (l r : Bool) → l ≡ stands (leftOf t) (b .bounds) → r ≡ stands (rightOf t) (b .bounds) → (l && r) ≡ boundsStand (kindOf m) t b
-  unfolding boundsStand every _and_
-  merge-bounds y l r left right = rw (y, ← left, ← right) (go l r)
-    where
-      go : (x y : Bool) → (x && y) ≡ (x and y and true)
-      go true true = refl
-      go true false = refl
-      go false y = refl
+  unfolding boundsStand every
+  merge-bounds y l r left right = and-is l r ∙ rw (y, ← left, ← right, and-end r)
 
   pub split-bounds : m ≡ false → (p : Bool) → p ≡ stands t (b .bounds) → p ≡ boundsStand (kindOf m) t b
-  unfolding boundsStand every _and_
-  split-bounds n p parent = rw (n, ← parent) (go p)
-    where
-      go : (x : Bool) → x ≡ (x and true)
-      go true = refl
-      go false = refl
+  unfolding boundsStand every
+  split-bounds n p parent = rw (n, ← parent, and-end p)
 
 -- ---- the first fault decides
 

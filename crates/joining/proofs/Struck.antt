@@ -24,6 +24,7 @@ use Rattle.rules.proofs.Tables.{From, at-below}
 use Rattle.rules.proofs.Tests.{le-of, of-le, lt-of-no, has-occ}
 use Rattle.rules.proofs.KeptTables.{length-each, at-update}
 use Rattle.rules.proofs.KeptBoard.{good-of}
+use Rattle.tables.proofs.Bools.{and-end}
 use Rattle.tables.proofs.Keys.{update-none}
 use Rattle.board.specs.Held.{noMachine}
 use Rattle.moves.specs.declared.Exit.the-variants.{Short}
@@ -132,11 +133,7 @@ module _ (s : Shard) (x y : Id) (b : Board) where
 
     pub replace-opens : l ≡ [] → stands s (b .committees) ≡ false → ltb (length (b .committees)) mostCommittees ≡ mayJoin s (y ∷ []) (leaveSeat s x b)
     unfolding strike keep has any _and_ _or_
-    replace-opens e q = sym (asked ∙ rw (q, m ∙ e) (go (ltb (length (b .committees)) mostCommittees)))
-      where
-        go : (c : Bool) → (c and true) ≡ c
-        go true = refl
-        go false = refl
+    replace-opens e q = sym (asked ∙ rw (q, m ∙ e) (and-end (ltb (length (b .committees)) mostCommittees)))
 
 -- ---- the machines without it
 

@@ -34,6 +34,14 @@ kind-split merging r e = rw e (go (r .kind))
     go split = refl
     go merge = refl
 
+pub kind-told : (r : Reshape) (merging : Bool) → merging ≡ isKind merge r → kindOf merging ≡ r .kind
+unfolding isKind
+kind-told r merging e = rw e (go (r .kind))
+  where
+    go : (k : Kind) → kindOf (elim k [ split ↦ false | merge ↦ true ]) ≡ k
+    go split = refl
+    go merge = refl
+
 module _ (b : Board) (ok : wellFormed b ≡ true) (after : List ℕ) (x : Id) where
   -- ---- its place, at row i
 

@@ -16,7 +16,7 @@ ghost use Rattle.rules.specs.Board as rules;
 ghost use Rattle.rules.specs.Board.{Board, mostReshapes, mostSeats, onReshapes};
 ghost use Rattle.rules.specs.Moves.{withSeats};
 ghost use Rattle.rules.specs.Snapshot.{seatWords};
-ghost use Rattle.tables.specs.Rows.{Rising, keyOf, placeOf, insertAt, removeAt};
+ghost use Rattle.tables.specs.Rows.{Rising, keyOf, placeOf, rowOf, insertAt, removeAt};
 ghost use Rattle.board.specs.Layout.{boardSize, seatWidth, seatTable};
 ghost use Rattle.board.specs.Held.{Holds, noReshape, noSeat};
 ghost use Rattle.board.specs.Leaves.{changeAt};
@@ -108,6 +108,17 @@ pub fn place_of(ws: &[u64], i: usize, id: ValidatorId) -> usize
     let a = RESHAPES_AT + 1 + i * RESHAPE_WIDTH + SEATS_AT;
     let e = a + SEATS_SIZE;
     tables::place_of(&ws[a..e], SEAT_WIDTH, MOST_SEATS, id.0)
+}
+
+// The row of an id's seat; 32, past every row, where it has none.
+pub fn row_of(ws: &[u64], i: usize, id: ValidatorId) -> usize
+    requires { ⌜ (length (now ws) ≡ boardSize) × (i < mostReshapes) ⌝ }
+    ensures { λ r. ⌜ ((b : Board) → Holds (now (ws .entry)) b → i < length (b .reshapes) → Rising keyOf (getD (b .reshapes) i noReshape .val .seats) →
+        r ≡ rowOf keyOf mostSeats (id .0) (getD (b .reshapes) i noReshape .val .seats)) ⌝ }
+{
+    let a = RESHAPES_AT + 1 + i * RESHAPE_WIDTH + SEATS_AT;
+    let e = a + SEATS_SIZE;
+    tables::row_of(&ws[a..e], SEAT_WIDTH, MOST_SEATS, id.0)
 }
 
 pub fn put(ws: &mut [u64], i: usize, k: usize, q: Seat)

@@ -1,21 +1,43 @@
--- A search by place: each way out.
-use Prim.Native.Nat.{ℕ, _≤_, _<_}
-use mathlib.Core.Path.{_≡_}
+-- What a search tells: the row of a key, or that nothing stands at it.
+use Prim.Native.Nat.{ℕ, _≤_}
+use mathlib.Core.Path.{_≡_, refl, sym, _∙_}
+use mathlib.Core.List.{[], _∷_}
+use mathlib.Core.Option.{none}
+use mathlib.Core.Bool.{Bool, true, false}
 use native.Mathlib.Omega.{arith}
-use lib.ListN.{length, getD}
-use Rattle.rules.specs.Table.{Entry, Table}
-use Rattle.tables.specs.Rows.{Rising, keyOf, placeOf}
-use Rattle.tables.proofs.Keys.{at-is-none}
+use borrow.Author.Tests.{ltb-true, ltb-false}
+use lib.Dec.{eqb, ltb}
+use lib.ListN.{length}
+use Rattle.rules.specs.Table.{Entry, Table, at}
+use Rattle.rules.proofs.Counts.{Alike, same, apart, alike}
+use Rattle.rules.proofs.Tests.{eq-of}
+use Rattle.tables.specs.Rows.{firstWhere, rowOf, keyOf}
+use Rattle.tables.proofs.Keys.{first-passes}
 use Rattle.rows.specs.Found.{Found}
 
-module _ {A : Type 0} (most k : ℕ) (d : Entry A) (t : Table A) (rise : Rising keyOf t) (room : length t ≤ most) (p : ℕ) (is : p ≡ placeOf keyOf k t) where
-  pub past-the-end : length t ≤ p → Found most k d t most
-  past-the-end l =
-      record { inside = λ h. absurd (omega arith); named = λ h. absurd (omega arith); missing = λ h. at-is-none t rise k d (λ w e. omega arith) }
+module _ {A : Type 0} (k : ℕ) where
+  none-passes : (t : Table A) → length t ≤ firstWhere (λ e. eqb (keyOf e) k) t → at k t ≡ none
+  unfolding firstWhere at
+  none-passes [] l = refl
+  none-passes (e ∷ t) l = go (alike (e .key) k) (alike k (e .key)) (none-passes t)
+    where
+      go : Alike (e .key) k → Alike k (e .key) → (length t ≤ firstWhere (λ e. eqb (keyOf e) k) t → at k t ≡ none) → at k (e ∷ t) ≡ none
+      go (same p q) b ih = absurd (let z = rw q at l in omega arith)
+      go (apart p q) (same u v) ih = absurd (p (sym u))
+      go (apart p q) (apart u v) ih = rw v (ih (let z = rw q at l in omega arith))
 
-  pub another-key : (getD t p d .key ≡ k → ⊥) → Found most k d t most
-  another-key n =
-      record { inside = λ h. absurd (omega arith); named = λ h. absurd (omega arith); missing = λ h. at-is-none t rise k d (λ w e. n (rw is e)) }
+  pub found-at : (most : ℕ) (d : Entry A) (t : Table A) → length t ≤ most → (r : ℕ) → r ≡ rowOf keyOf most k t → Found most k d t r
+  found-at most d t room r is = go (ltb (firstWhere f t) (length t)) refl
+    where
+      f : Entry A → Bool
+      f e = eqb (keyOf e) k
 
-  pub the-key : p < length t → getD t p d .key ≡ k → Found most k d t p
-  the-key l e = record { inside = λ h. l; named = λ h. e; missing = λ h. absurd (omega arith) }
+      go : (c : Bool) → ltb (firstWhere f t) (length t) ≡ c → Found most k d t r
+      go true e =
+          let l = ltb-true (firstWhere f t) (length t) e in
+          let s : r ≡ firstWhere f t = is ∙ rw e in
+          record { inside = λ h. omega arith; named = λ h. rw s (eq-of _ _ (first-passes f t d l)); missing = λ h. absurd (omega arith) }
+      go false e =
+          let l = ltb-false (firstWhere f t) (length t) e in
+          let s : r ≡ most = is ∙ rw e in
+          record { inside = λ h. absurd (omega arith); named = λ h. absurd (omega arith); missing = λ h. none-passes t l }

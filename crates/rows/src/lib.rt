@@ -1,14 +1,20 @@
 // Where a row stands, by its key.
-use board::committees;
+use board::layout::BOARD_SIZE;
+use board::layout::BOUNDARY_WIDTH;
+use board::layout::BOUNDS_AT;
+use board::layout::COMMITTEE_WIDTH;
+use board::layout::COMMITTEES_AT;
+use board::layout::MACHINE_WIDTH;
+use board::layout::MACHINES_AT;
 use board::layout::MOST_BOUNDS;
 use board::layout::MOST_COMMITTEES;
 use board::layout::MOST_MACHINES;
 use board::layout::MOST_RESHAPES;
-use board::layout::MOST_SEATS;
+use board::layout::RESHAPE_WIDTH;
+use board::layout::RESHAPES_AT;
+use board::layout::ROTATIONS_AT;
 use board::machines;
-use reshapes::fields;
 use reshapes::seats;
-use shards::bounds;
 use types::Place;
 use types::ShardId;
 use types::ValidatorId;
@@ -38,19 +44,12 @@ pub fn machine_row(board: &[u64], id: ValidatorId) -> usize
     requires { ⌜ length (now board) ≡ boardSize ⌝ }
     ensures { λ r. ⌜ ((b : Board) → Holds (now (board .entry)) b → wellFormed b ≡ true → Found mostMachines (id .0) noMachine (b .machines) r) ⌝ }
 {
-    let i = machines::place_of(board, id);
-    if MOST_MACHINES <= i {
-        return MOST_MACHINES;
-    }
-    if machines::count(board) <= i {
-        return MOST_MACHINES;
-    }
-    let machine = machines::at(board, i);
-    let there = machine.id;
-    if there.0 == id.0 {
-        return i;
-    }
-    MOST_MACHINES
+    tables::row_of(
+        &board[MACHINES_AT..COMMITTEES_AT],
+        MACHINE_WIDTH,
+        MOST_MACHINES,
+        id.0,
+    )
 }
 
 // The machine's place; one with no record is as good as short of stake, which is neither seated nor ready.
@@ -71,18 +70,12 @@ pub fn committee_row(board: &[u64], shard: ShardId) -> usize
     requires { ⌜ length (now board) ≡ boardSize ⌝ }
     ensures { λ r. ⌜ ((b : Board) → Holds (now (board .entry)) b → wellFormed b ≡ true → Found mostCommittees (shard .0) noCommittee (b .committees) r) ⌝ }
 {
-    let j = committees::place_of(board, shard);
-    if MOST_COMMITTEES <= j {
-        return MOST_COMMITTEES;
-    }
-    if committees::count(board) <= j {
-        return MOST_COMMITTEES;
-    }
-    let there = committees::shard_at(board, j);
-    if there.0 == shard.0 {
-        return j;
-    }
-    MOST_COMMITTEES
+    tables::row_of(
+        &board[COMMITTEES_AT..BOUNDS_AT],
+        COMMITTEE_WIDTH,
+        MOST_COMMITTEES,
+        shard.0,
+    )
 }
 
 // The row of the shard's boundary; 48, past every row, where there is none.
@@ -90,18 +83,12 @@ pub fn bound_row(board: &[u64], shard: ShardId) -> usize
     requires { ⌜ length (now board) ≡ boardSize ⌝ }
     ensures { λ r. ⌜ ((b : Board) → Holds (now (board .entry)) b → wellFormed b ≡ true → Found mostBounds (shard .0) noBoundary (b .bounds) r) ⌝ }
 {
-    let i = bounds::place_of(board, shard);
-    if MOST_BOUNDS <= i {
-        return MOST_BOUNDS;
-    }
-    if bounds::count(board) <= i {
-        return MOST_BOUNDS;
-    }
-    let there = bounds::shard_at(board, i);
-    if there.0 == shard.0 {
-        return i;
-    }
-    MOST_BOUNDS
+    tables::row_of(
+        &board[BOUNDS_AT..ROTATIONS_AT],
+        BOUNDARY_WIDTH,
+        MOST_BOUNDS,
+        shard.0,
+    )
 }
 
 // The row of the target's reshape; 8, past every row, where there is none.
@@ -109,18 +96,12 @@ pub fn reshape_row(board: &[u64], target: ShardId) -> usize
     requires { ⌜ length (now board) ≡ boardSize ⌝ }
     ensures { λ r. ⌜ ((b : Board) → Holds (now (board .entry)) b → wellFormed b ≡ true → Found mostReshapes (target .0) noReshape (b .reshapes) r) ⌝ }
 {
-    let i = fields::place_of(board, target);
-    if MOST_RESHAPES <= i {
-        return MOST_RESHAPES;
-    }
-    if fields::count(board) <= i {
-        return MOST_RESHAPES;
-    }
-    let there = fields::target_at(board, i);
-    if there.0 == target.0 {
-        return i;
-    }
-    MOST_RESHAPES
+    tables::row_of(
+        &board[RESHAPES_AT..BOARD_SIZE],
+        RESHAPE_WIDTH,
+        MOST_RESHAPES,
+        target.0,
+    )
 }
 
 // The row of the machine's seat in the reshape at i; 32, past every row, where there is none.
@@ -129,17 +110,5 @@ pub fn seat_row(board: &[u64], i: usize, machine: ValidatorId) -> usize
     ensures { λ r. ⌜ ((b : Board) → Holds (now (board .entry)) b → wellFormed b ≡ true → i < length (b .reshapes) →
         Found mostSeats (machine .0) noSeat (getD (b .reshapes) i noReshape .val .seats) r) ⌝ }
 {
-    let k = seats::place_of(board, i, machine);
-    if MOST_SEATS <= k {
-        return MOST_SEATS;
-    }
-    if seats::count(board, i) <= k {
-        return MOST_SEATS;
-    }
-    let seat = seats::at(board, i, k);
-    let id = seat.id;
-    if id.0 == machine.0 {
-        return k;
-    }
-    MOST_SEATS
+    seats::row_of(board, i, machine)
 }

@@ -16,7 +16,7 @@ use Rattle.rules.specs.Schedule.{seatedThere}
 use Rattle.rules.proofs.Counts.{Alike, same, apart, alike, eqb-same, eqb-apart}
 use Rattle.rules.proofs.KeptTables.{at-update, at-other, holds-same}
 use Rattle.rules.proofs.Turns.{forAll-keeps}
-use Rattle.drains.proofs.Drains.{and-end}
+use Rattle.tables.proofs.Bools.{and-end}
 
 -- ---- lists
 

@@ -7,7 +7,7 @@ use lib.ListN.{length, getD}
 use Rattle.types.specs.Numbers.{Shard}
 use Rattle.rules.specs.Lists.{_and_, allOf}
 use Rattle.rules.specs.Table.{Entry, keysOf}
-use Rattle.rules.specs.Board.{Kind, split, merge, Reshape, Board, mostReshapes}
+use Rattle.rules.specs.Board.{merge, Reshape, Board, mostReshapes}
 use Rattle.rules.specs.WellFormed.{isTarget, keyBefore, goodReshape, wellFormed}
 use Rattle.rules.specs.Moves.{isKind, committeesFit, boundsStand}
 use Rattle.rules.specs.SeatCheck.{membersAreThere, machinesAreListed, cohortsWatch, rotationsFit, scheduledFit, familiesApart, reshapesStand, seatCheck}
@@ -19,6 +19,7 @@ use Rattle.board.specs.Permitted.{WellHeld}
 use Rattle.board.proofs.One.{list-good, one-board}
 use Rattle.board.proofs.Fitting.{every-at}
 use Rattle.reshapes.specs.Changes.{kindOf}
+use Rattle.moves.proofs.Exiting.{kind-told}
 use Rattle.seats.specs.Rows.{reshapeStands}
 use Rattle.seats.specs.Tells.{TellsSeats}
 
@@ -28,14 +29,6 @@ pub is-a-target : (b : Board) → wellFormed b ≡ true → (i : ℕ) → i < le
 unfolding wellFormed goodReshape
 is-a-target b ok i l =
     all-parts _ (every-at goodReshape (b .reshapes) i noReshape (list-good mostReshapes goodReshape keyBefore (b .reshapes) (all-parts _ ok .1 .1 .1 .1 .1 .0)) l) .0
-
-kind-told : (r : Reshape) (m : Bool) → m ≡ isKind merge r → kindOf m ≡ r .kind
-unfolding isKind
-kind-told r m e = rw e (go (r .kind))
-  where
-    go : (k : Kind) → kindOf (elim k [ split ↦ false | merge ↦ true ]) ≡ k
-    go split = refl
-    go merge = refl
 
 pub stands-is : (b : Board) (e : Entry Reshape) (t : Shard) (m : Bool) → t ≡ e .key → m ≡ isKind merge (e .val) → (c d : Bool) → c ≡ committeesFit (kindOf m) t b → d ≡ boundsStand (kindOf m) t b → (c && d) ≡ reshapeStands b e
 stands-is b e t m k q c d f g = rw (← k, ← kind-told (e .val) m q, ← f, ← g) (and-is c d)

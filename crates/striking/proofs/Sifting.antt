@@ -2,21 +2,18 @@
 use Prim.Native.Nat.{ℕ, _+_, _-_, _*_, _≤_, _<_}
 use mathlib.Core.Path.{_≡_, refl, ap, sym, _∙_}
 use mathlib.Core.List.{List, _++_}
-use mathlib.Core.Bool.{Bool, true, false, false≢true}
+use mathlib.Core.Bool.{Bool, true}
 use native.Mathlib.Omega.{arith}
 use borrow.Rule.Slice.PartMut.{putMid}
-use lib.Dec.{eqb}
 use lib.ListN.{length, getD, set, take, drop, length-drop, length-set, take-append-drop}
 use lib.Seq.{set-set, set-getD, getD-set-same, length-take-le}
 use Rattle.types.specs.Numbers.{Id}
 use Rattle.rules.specs.Lists.{bitOf, keep}
-use Rattle.rules.specs.Table.{Entry, entry, Table, isSome, stands, update}
+use Rattle.rules.specs.Table.{Entry, entry, Table, update}
 use Rattle.rules.specs.Board.{Board, mostCommittees, mostMembers, onCommittees}
 use Rattle.rules.specs.WellFormed.{wellFormed}
-use Rattle.rules.proofs.Tests.{eq-of, of-eq}
 use Rattle.shifts.proofs.Parts.{Spot, spot-store}
-use Rattle.tables.specs.Rows.{Rising, keyOf, placeOf}
-use Rattle.tables.proofs.Keys.{at-is, at-is-none, update-none}
+use Rattle.tables.proofs.Keys.{update-none}
 use Rattle.tables.proofs.Sifted.{id-set, Sifted, sifted-none, sifted-few, sifted-next, sifted-more, sifted-all}
 use Rattle.board.specs.Layout.{boardSize, committeesAt, committeeWidth, membersAt}
 use Rattle.board.specs.Held.{Holds, noCommittee}
@@ -105,21 +102,6 @@ module _ (f : Id → Bool) (b : Board) (j : ℕ) (l : j < length (b .committees)
     all-tried n cut =
         held-as after _ _ (ap (λ (s : List Id). onCommittees (changeAt noCommittee j (λ _. s)) b) (sifted-all f all m k (w .members) (w .sifted) n))
         (changed (take k) (cut halfway (w .held) stands-there (rw members-there (sifted-few f all m k (w .members) (w .sifted)))))
-
--- ---- a seat looked for
-
-module _ {A : Type 0} (k : ℕ) (d : Entry A) (t : Table A) (rise : Rising keyOf t) (p : ℕ) (is : p ≡ placeOf keyOf k t) where
-  pub no-seat : length t ≤ p → false ≡ stands k t
-  unfolding stands isSome
-  no-seat l = rw (at-is-none t rise k d (λ w e. omega arith))
-
-  pub seat-there : p < length t → eqb (getD t p d .key) k ≡ stands k t
-  unfolding stands isSome
-  seat-there l = go (eqb (getD t p d .key) k) refl
-    where
-      go : (c : Bool) → eqb (getD t p d .key) k ≡ c → c ≡ stands k t
-      go true e = rw (at-is t rise k p d l (eq-of _ _ e))
-      go false e = rw (at-is-none t rise k d (λ w q. false≢true (sym e ∙ of-eq (getD t p d .key) k (rw is q))))
 
 -- ---- the shard's committee, at the row that was found
 

@@ -54,16 +54,7 @@ fn has_seat(board: &[u64], i: usize, id: ValidatorId) -> bool
     ensures { λ r. ⌜ ((b : Board) → Holds (now (board .entry)) b → i < length (b .reshapes) → Rising keyOf (getD (b .reshapes) i noReshape .val .seats) →
         r ≡ stands (id .0) (getD (b .reshapes) i noReshape .val .seats)) ⌝ }
 {
-    let k = seats::place_of(board, i, id);
-    if MOST_SEATS <= k {
-        return false;
-    }
-    if seats::count(board, i) <= k {
-        return false;
-    }
-    let seat = seats::at(board, i, k);
-    let there = seat.id;
-    there.0 == id.0
+    seats::row_of(board, i, id) < MOST_SEATS
 }
 
 // Those of the committee at j with no seat in the reshape at i close ranks, in their order.

@@ -12,3 +12,8 @@ pub and-is : (c d : Bool) → (c && d) ≡ (c and d)
 unfolding _and_
 and-is true d = refl
 and-is false d = refl
+
+pub and-end : (c : Bool) → (c and true) ≡ c
+unfolding _and_
+and-end true = refl
+and-end false = refl

@@ -7,7 +7,7 @@ use mathlib.Core.Bool.{Bool, true, false, cond}
 use native.Mathlib.Omega.{arith}
 use native.Mathlib.Numerals.{add-one}
 use borrow.Author.Tests.{ltb-true, lt-ltb, le-ltb, le-leb, lt-leb, leb-true, leb-false, eq-eqb, ne-eqb}
-use lib.Dec.{eqb, leb}
+use lib.Dec.{eqb, leb, ltb}
 use lib.ListN.{length, getD, set, drop, drop-of-length-le}
 use lib.Seq.{drop-cons}
 use Rattle.rules.specs.Table.{Entry, entry, Table, at, put, remove, each, update}
@@ -16,8 +16,8 @@ use Rattle.rules.specs.Board.{Rotation}
 use Rattle.rules.specs.Moves.{openRotation, dropFirst}
 use Rattle.rules.proofs.Counts.{Alike, same, apart, alike}
 use Rattle.rules.proofs.Tables.{From, at-below}
-use Rattle.rules.proofs.Tests.{and-parts, rising-table}
-use Rattle.tables.specs.Rows.{insertAt, removeAt, Rising, firstWhere, placeOf, keyOf}
+use Rattle.rules.proofs.Tests.{and-parts, eq-of, rising-table}
+use Rattle.tables.specs.Rows.{insertAt, removeAt, Rising, firstWhere, placeOf, rowOf, keyOf}
 
 -- ---- the first row that passes a test
 
@@ -30,6 +30,26 @@ module _ {A : Type 0} (f : A → Bool) where
       go : (c : Bool) → firstWhere f l ≤ length l → cond c 0 (suc (firstWhere f l)) ≤ suc (length l)
       go true p = omega arith
       go false p = omega arith
+
+  pub first-passes : (l : List A) (d : A) → firstWhere f l < length l → f (getD l (firstWhere f l) d) ≡ true
+  unfolding firstWhere
+  first-passes [] d h = absurd (omega arith)
+  first-passes (x ∷ l) d h = go (f x) refl h (first-passes l d)
+    where
+      go : (c : Bool) → f x ≡ c → cond c 0 (suc (firstWhere f l)) < suc (length l) → (firstWhere f l < length l → f (getD l (firstWhere f l) d) ≡ true)
+          → f (getD (x ∷ l) (cond c 0 (suc (firstWhere f l))) d) ≡ true
+      go true e m p = e
+      go false e m p = p (omega arith)
+
+  first-before : (l : List A) (i : ℕ) (d : A) → i < length l → f (getD l i d) ≡ true → firstWhere f l ≤ i
+  unfolding firstWhere
+  first-before [] i d h e = absurd (omega arith)
+  first-before (x ∷ l) zero d h e = rw e (omega arith)
+  first-before (x ∷ l) (suc i) d h e = go (f x) (first-before l i d (omega arith) e)
+    where
+      go : (c : Bool) → firstWhere f l ≤ i → cond c 0 (suc (firstWhere f l)) ≤ suc i
+      go true m = omega arith
+      go false m = omega arith
 
   -- the search from row i on, as a loop goes: a row that passes, one that does not, and the end
   pub first-here : (l : List A) (i : ℕ) (d : A) → i < length l → f (getD l i d) ≡ true → firstWhere f (drop i l) ≡ 0
@@ -81,6 +101,15 @@ module _ {A : Type 0} (key : A → ℕ) where
       let p = place-above l i d k (rest x l r) (omega arith) m in
       rw (lt-leb k (key x) (omega arith)) (omega arith)
 
+  place-least : (l : List A) (i : ℕ) (d : A) (k : ℕ) → Rising key l → i < length l → key (getD l i d) ≡ k → i ≤ placeOf key k l
+  unfolding firstWhere
+  place-least l zero d k r h e = omega arith
+  place-least [] (suc i) d k r h e = absurd (omega arith)
+  place-least (x ∷ l) (suc i) d k r h e =
+      let n = rises x l i d r (omega arith) in
+      let p = place-least l i d k (rest x l r) (omega arith) e in
+      rw (lt-leb k (key x) (omega arith)) (omega arith)
+
   pub place-under : (l : List A) (i : ℕ) (d : A) (k : ℕ) → i < length l → k ≤ key (getD l i d) → placeOf key k l ≤ i
   unfolding firstWhere
   place-under [] i d k h m = absurd (omega arith)
@@ -90,6 +119,34 @@ module _ {A : Type 0} (key : A → ℕ) where
       go : (c : Bool) → placeOf key k l ≤ i → cond c 0 (suc (placeOf key k l)) ≤ suc i
       go true p = omega arith
       go false p = omega arith
+
+  -- a search for the row of a key: on which side of row m it is
+  module _ (l : List A) (m i : ℕ) (d : A) (k : ℕ) (r : Rising key l) (lm : m < length l) (li : i < length l) (e : key (getD l i d) ≡ k) where
+    pub row-above : key (getD l m d) < k → m < i
+    row-above n = let a = place-above l m d k r lm n in let u = place-under l i d k li (omega arith) in omega arith
+
+    pub row-under : k < key (getD l m d) → i < m
+    row-under n = let a = place-above l i d (key (getD l m d)) r li (omega arith) in let u = place-under l m d (key (getD l m d)) lm (omega arith) in omega arith
+
+  -- a key that has a row: no other has it
+  pub row-here : (l : List A) (i : ℕ) (d : A) (cap k : ℕ) → Rising key l → i < length l → key (getD l i d) ≡ k → rowOf key cap k l ≡ i
+  row-here l i d cap k r h e =
+      let f : A → Bool = λ x. eqb (key x) k in
+      let m = first-before f l i d h (eq-eqb (key (getD l i d)) k e) in
+      let p : key (getD l (firstWhere f l) d) ≡ k = eq-of _ _ (first-passes f l d (omega arith)) in
+      let u = place-least l i d k r h e in
+      let v = place-under l (firstWhere f l) d k (omega arith) (omega arith) in
+      rw (lt-ltb (firstWhere f l) (length l) (omega arith)) (omega arith)
+
+  pub row-nowhere : (l : List A) (d : A) (cap k : ℕ) → ((i : ℕ) → i < length l → key (getD l i d) ≡ k → ⊥) → rowOf key cap k l ≡ cap
+  row-nowhere l d cap k n = go (ltb (firstWhere f l) (length l)) refl
+    where
+      f : A → Bool
+      f x = eqb (key x) k
+
+      go : (c : Bool) → ltb (firstWhere f l) (length l) ≡ c → cond c (firstWhere f l) cap ≡ cap
+      go true e = let h = ltb-true (firstWhere f l) (length l) e in absurd (n (firstWhere f l) h (eq-of _ _ (first-passes f l d h)))
+      go false e = refl
 
 -- ---- a key that stands at row i
 

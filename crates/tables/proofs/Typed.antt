@@ -12,7 +12,7 @@ use Rattle.rules.specs.WellFormed.{rising}
 use Rattle.rules.specs.Snapshot.{rowsWords}
 use Rattle.rules.proofs.Counts.{Alike, same, apart, alike}
 use Rattle.tables.proofs.Tables.{cleared}
-use Rattle.tables.specs.Rows.{table, insertAt, removeAt, Rising, firstWhere, placeOf, without, Row, wordsIn, keyIn, keyOf}
+use Rattle.tables.specs.Rows.{table, insertAt, removeAt, Rising, firstWhere, placeOf, rowOf, without, Row, wordsIn, keyIn, keyOf}
 
 module _ {A B : Type 0} (g : A → B) where
   map-insert : (xs : List A) (j : ℕ) (y : A) → map g (insertAt xs j y) ≡ insertAt (map g xs) j (g y)
@@ -93,15 +93,25 @@ module _ {A : Type 0} (f : A → List ℕ) (w : ℕ) (fw : (x : A) → length (f
           g (map asRow xs) (e ∙ table-map xs) (omega arith)
           ∙ sym (table-map (without key k xs) ∙ rw (map-keep asRow (λ r. not (eqb (keyIn r) k)) (λ x. not (eqb (key x) k)) (λ x. rw (first x)) xs))
 
+      rising-map : Rising key xs → Rising keyIn (map asRow xs)
+      rising-map h = map-rising asRow (λ x y. ltb (keyIn x) (keyIn y)) (λ x y. ltb (key x) (key y)) (λ x y. rw (first x, first y)) xs ∙ h
+
       -- `place_of`
       pub placed-as : (k r : ℕ) → length xs ≤ cap → Rising key xs
           → ((rs : List (Row w)) → t ≡ table wordsIn w cap rs → length rs ≤ cap → Rising keyIn rs → r ≡ placeOf keyIn k rs)
           → r ≡ placeOf key k xs
       placed-as k r l h g =
           let n : length (map asRow xs) ≡ length xs = length-map xs asRow in
-          g (map asRow xs) (e ∙ table-map xs) (omega arith)
-          (map-rising asRow (λ x y. ltb (keyIn x) (keyIn y)) (λ x y. ltb (key x) (key y)) (λ x y. rw (first x, first y)) xs ∙ h)
+          g (map asRow xs) (e ∙ table-map xs) (omega arith) (rising-map h)
           ∙ map-first asRow (λ x. leb k (keyIn x)) (λ x. leb k (key x)) (λ x. rw (first x)) xs
+
+      -- `row_of`
+      pub rowed-as : (k r : ℕ) → length xs ≤ cap → Rising key xs
+          → ((rs : List (Row w)) → t ≡ table wordsIn w cap rs → length rs ≤ cap → Rising keyIn rs → r ≡ rowOf keyIn cap k rs)
+          → r ≡ rowOf key cap k xs
+      rowed-as k r l h g =
+          let n : length (map asRow xs) ≡ length xs = length-map xs asRow in
+          g (map asRow xs) (e ∙ table-map xs) (omega arith) (rising-map h) ∙ rw (map-first asRow (λ x. eqb (keyIn x) k) (λ x. eqb (key x) k) (λ x. rw (first x)) xs, n)
 
 -- the definitions' name for rows taken out by key
 pub remove-is-without : {A : Type 0} (k : ℕ) (t : Table A) → remove k t ≡ without keyOf k t

@@ -43,6 +43,10 @@ module _ {A : Type 0} where
   abbrev pub placeOf : (A → ℕ) → ℕ → List A → ℕ
   placeOf key k = firstWhere (λ x. leb k (key x))
 
+  -- the row of a key; cap where it has none
+  abbrev pub rowOf : (A → ℕ) → ℕ → ℕ → List A → ℕ
+  rowOf key cap k xs = let i = firstWhere (λ x. eqb (key x) k) xs in cond (ltb i (length xs)) i cap
+
   -- without the rows of a key
   abbrev pub without : (A → ℕ) → ℕ → List A → List A
   without key k = keep (λ x. not (eqb (key x) k))

@@ -6,7 +6,7 @@ ghost use mathlib.Core.Bool.{not};
 ghost use lib.Dec.{eqb};
 ghost use lib.ListN.{length, getD, take, replicate};
 ghost use Rattle.rules.specs.Lists.{bitOf, has, strike};
-ghost use Rattle.tables.specs.Rows.{table, idTable, insertAt, removeAt, Rising, placeOf, without, Row, wordsIn, keyIn};
+ghost use Rattle.tables.specs.Rows.{table, idTable, insertAt, removeAt, Rising, placeOf, rowOf, without, Row, wordsIn, keyIn};
 ghost use Rattle.shifts.specs.Moved.{movedDown};
 
 // ---- Rows of w words, with room for cap of them
@@ -78,6 +78,28 @@ pub fn place_of(t: &[u64], w: usize, cap: usize, k: u64) -> usize
         }
     }
     lo
+}
+
+// The row of the key k, by halves; cap, past every row, where it has none.
+pub fn row_of(t: &[u64], w: usize, cap: usize, k: u64) -> usize
+    requires { ⌜ (length (now t) ≡ 1 + cap * w) × (cap < 4096) × (0 < w) × (w < 4096) ⌝ }
+    ensures { λ r. ⌜ ((rs : List (Row w)) → now (t .entry) ≡ table wordsIn w cap rs → length rs ≤ cap → Rising keyIn rs → r ≡ rowOf keyIn cap k rs) ⌝ }
+{
+    let mut lo: usize = 0;
+    let mut hi = rows_within(t, cap);
+    while lo < hi {
+        let mid = lo + (hi - lo) / 2;
+        let there = t[1 + mid * w];
+        if there == k {
+            return mid;
+        }
+        if there < k {
+            lo = mid + 1;
+        } else {
+            hi = mid;
+        }
+    }
+    cap
 }
 
 // Row i goes to place k, unless its key is x: the next place.
