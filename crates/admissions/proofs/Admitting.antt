@@ -22,6 +22,7 @@ use Rattle.rules.specs.Reshapes.{admissionFaults, admit, admitSplit, seatAll, d
 use Rattle.tables.specs.Rows.{Rising, keyOf}
 use Rattle.board.specs.Held.{Holds}
 use Rattle.board.proofs.Fitting.{held-as}
+use Rattle.reshapes.proofs.SeatMoves.{seatsInRow}
 use Rattle.steps.specs.Inner.{outcome, Step}
 use Rattle.sampling.specs.declared.Reader.{Reader}
 use Rattle.gathering.specs.Gathered.{Drew, Lacks, lacking, large}
@@ -29,7 +30,7 @@ use Rattle.keepers.specs.Kept.{seatsOf}
 use Rattle.families.specs.Faults.{Grants}
 use Rattle.admissions.specs.Granted.{admitsKept, mergeGranted}
 use Rattle.admissions.specs.Seated.{rowFor, opened, withSeatsAt}
-use Rattle.admissions.proofs.Opening.{seatsAt, opened-is-put, opened-row, opened-seats, opened-seated}
+use Rattle.admissions.proofs.Opening.{opened-is-put, opened-row, opened-seats, opened-seated}
 
 -- ---- a step that is one turn
 
@@ -105,18 +106,18 @@ module _ (t : Shard) (b : Board) (s : Table Seat) (i : ℕ) (e : i ≡ rowFor t 
   row-in : i < length (opened merge t s b .reshapes)
   row-in = rw e (opened-row merge t b s)
 
-  seats-in : seatsAt i (opened merge t s b) ≡ s
+  seats-in : seatsInRow i (opened merge t s b) ≡ s
   seats-in = rw e (opened-seats merge t b s)
 
   -- a child's ids
   pub child-seated : (ws : List ℕ) (c : Shard) (ids : List Id) → Rising keyOf s → length s + length ids ≤ mostSeats
-      → (i < length (opened merge t s b .reshapes) → Rising keyOf (seatsAt i (opened merge t s b)) → length (seatsAt i (opened merge t s b)) + length ids ≤ mostSeats
-      → Holds ws (withSeatsAt i (seatAll c ids (seatsAt i (opened merge t s b))) (opened merge t s b)))
+      → (i < length (opened merge t s b .reshapes) → Rising keyOf (seatsInRow i (opened merge t s b)) → length (seatsInRow i (opened merge t s b)) + length ids ≤ mostSeats
+      → Holds ws (withSeatsAt i (seatAll c ids (seatsInRow i (opened merge t s b))) (opened merge t s b)))
       → Holds ws (opened merge t (seatAll c ids s) b)
   child-seated ws c ids rise room f =
       held-as ws _ _ (rw (seats-in, e) (opened-seated merge t b s (seatAll c ids s))) (f row-in (rw seats-in rise) (rw seats-in room))
 
-  pub seats-counted : (n : ℕ) → (i < length (opened merge t s b .reshapes) → n ≡ length (seatsAt i (opened merge t s b))) → n ≡ length s
+  pub seats-counted : (n : ℕ) → (i < length (opened merge t s b .reshapes) → n ≡ length (seatsInRow i (opened merge t s b))) → n ≡ length s
   seats-counted n f = f row-in ∙ ap length seats-in
 
 module _ (t : Shard) (ids : List Id) (n m at : ℕ) (draws : List ℕ) (b : Board) (after : List ℕ) (r : Outcome) where

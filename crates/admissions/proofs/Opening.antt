@@ -23,6 +23,7 @@ use Rattle.board.specs.Held.{Holds, noReshape, noSeat}
 use Rattle.board.proofs.Fitting.{insert-at, set-insert, insert-length, held-as}
 use Rattle.board.proofs.Keyed.{reshapes-rise}
 use Rattle.reshapes.specs.Changes.{newlyAdmitted}
+use Rattle.reshapes.proofs.SeatMoves.{seatsInRow}
 use Rattle.admissions.specs.Seated.{rowFor, opened, withSeatsAt}
 
 -- ---- one seat, at the place of its id
@@ -48,11 +49,8 @@ module _ (b : Board) (i : ℕ) (ws : List ℕ) (seats : Table Seat) (rise : Risi
 put-rises : (x : Id) (v : Seat) (seats : Table Seat) → Rising keyOf seats → Rising keyOf (put x v seats)
 put-rises x v seats r = from-rising 0 (put x v seats) (From-put x v 0 seats zero-le (rising-table seats r))
 
-abbrev pub seatsAt : ℕ → Board → Table Seat
-seatsAt i b = getD (b .reshapes) i noReshape .val .seats
-
 module _ (b : Board) (i : ℕ) (l : i < length (b .reshapes)) (s : Table Seat) where
-  pub seats-there : seatsAt i (withSeatsAt i s b) ≡ s
+  pub seats-there : seatsInRow i (withSeatsAt i s b) ≡ s
   seats-there = ap (λ (e : Entry Reshape). e .val .seats) (getD-set-same (b .reshapes) i _ noReshape l)
 
   pub row-there : i < length (withSeatsAt i s b .reshapes)
@@ -85,21 +83,21 @@ pub record Seating (i : ℕ) (c : Shard) (ids : List Id) (b : Board) (k : ℕ) (
   pub holds : Holds ws (withSeatsAt i seats b)
   pub rise : Rising keyOf seats
   pub room : length seats + length (drop k ids) ≤ mostSeats
-  pub rest : seatAll c (drop k ids) seats ≡ seatAll c ids (seatsAt i b)
+  pub rest : seatAll c (drop k ids) seats ≡ seatAll c ids (seatsInRow i b)
 
 module _ (i : ℕ) (c : Shard) (ids : List Id) (b : Board) where
-  pub seating-begins : (ws : List ℕ) → Holds ws b → Rising keyOf (seatsAt i b) → length (seatsAt i b) + length ids ≤ mostSeats → Seating i c ids b 0 ws
+  pub seating-begins : (ws : List ℕ) → Holds ws b → Rising keyOf (seatsInRow i b) → length (seatsInRow i b) + length ids ≤ mostSeats → Seating i c ids b 0 ws
   seating-begins ws h r m = record {
-    seats = seatsAt i b;
-    holds = held-as ws b (withSeatsAt i (seatsAt i b) b) (sym (ap (λ (z : Table Reshape). onReshapes (λ _. z) b) (set-getD (b .reshapes) i noReshape))) h;
+    seats = seatsInRow i b;
+    holds = held-as ws b (withSeatsAt i (seatsInRow i b) b) (sym (ap (λ (z : Table Reshape). onReshapes (λ _. z) b) (set-getD (b .reshapes) i noReshape))) h;
     rise = r;
     room = m;
     rest = refl;
   }
 
   pub seating-goes-on : (k : ℕ) (ws vs : List ℕ) → i < length (b .reshapes) → k < length ids → (s : Seating i c ids b k ws)
-      → (Rising keyOf (seatsAt i (withSeatsAt i (s .seats) b)) → length (seatsAt i (withSeatsAt i (s .seats) b)) < mostSeats
-      → Holds vs (withSeatsAt i (put (getD ids k 0) (newSeat c) (seatsAt i (withSeatsAt i (s .seats) b))) (withSeatsAt i (s .seats) b)))
+      → (Rising keyOf (seatsInRow i (withSeatsAt i (s .seats) b)) → length (seatsInRow i (withSeatsAt i (s .seats) b)) < mostSeats
+      → Holds vs (withSeatsAt i (put (getD ids k 0) (newSeat c) (seatsInRow i (withSeatsAt i (s .seats) b))) (withSeatsAt i (s .seats) b)))
       → Seating i c ids b (k + 1) vs
   unfolding seatAll
   seating-goes-on k ws vs l m s f =
@@ -116,7 +114,7 @@ module _ (i : ℕ) (c : Shard) (ids : List Id) (b : Board) where
         rest = sym (ap (λ (z : List Id). seatAll c z (s .seats)) e) ∙ s .rest;
       }
 
-  pub seating-ends : (k : ℕ) (ws : List ℕ) → length ids ≤ k → Seating i c ids b k ws → Holds ws (withSeatsAt i (seatAll c ids (seatsAt i b)) b)
+  pub seating-ends : (k : ℕ) (ws : List ℕ) → length ids ≤ k → Seating i c ids b k ws → Holds ws (withSeatsAt i (seatAll c ids (seatsInRow i b)) b)
   unfolding seatAll
   seating-ends k ws l s =
       held-as ws _ _ (ap (λ (z : Table Seat). withSeatsAt i z b) (sym (ap (λ (z : List Id). seatAll c z (s .seats)) (drop-of-length-le ids {i = k} l)) ∙ s .rest)) (s .holds)
@@ -139,7 +137,7 @@ module _ (k : Kind) (t : Shard) (b : Board) where
     pub opened-row : rowFor t b < length (opened k t s b .reshapes)
     opened-row = let l = row-within t b in rw (insert-length (b .reshapes) (rowFor t b) (entry t (newReshape k s b)) l) (omega arith)
 
-    pub opened-seats : seatsAt (rowFor t b) (opened k t s b) ≡ s
+    pub opened-seats : seatsInRow (rowFor t b) (opened k t s b) ≡ s
     opened-seats = ap (λ (e : Entry Reshape). e .val .seats) (insert-at (b .reshapes) (rowFor t b) (entry t (newReshape k s b)) noReshape (row-within t b))
 
     pub opened-seated : (seats : Table Seat) → withSeatsAt (rowFor t b) seats (opened k t s b) ≡ opened k t seats b

@@ -1,10 +1,10 @@
 -- One machine comes to a shard: what is asked before, and its move, as the code has it at the machine's row.
-use Prim.Native.Nat.{ℕ, _≤_, _<_}
+use Prim.Native.Nat.{ℕ, _<_}
 use mathlib.Core.Path.{_≡_, refl, ap, sym, _∙_}
 use mathlib.Core.Logic.{_≢_}
 use mathlib.Core.List.{List, [], _∷_}
 use mathlib.Core.Option.{Option, none, some}
-use mathlib.Core.Bool.{true, false, true≢false}
+use mathlib.Core.Bool.{true, false}
 use native.Mathlib.Omega.{arith}
 use borrow.Author.Tests.{lt-leb, lt-ltb}
 use lib.Dec.{ltb}
@@ -15,11 +15,11 @@ use Rattle.types.specs.declared.Place.{Place}
 use Rattle.types.specs.declared.Place.the-variants.{Pooled, Seated, Observing, Short, Other}
 use Rattle.rules.specs.Lists.{_and_, _or_, every, has}
 use Rattle.rules.specs.Table.{entry, Table, isSome, at, stands}
-use Rattle.rules.specs.Board.{Reshape, Board, mostMachines, mostCommittees, lastTarget, onMachines, onReshapes}
-use Rattle.rules.specs.WellFormed.{isTarget, wellFormed}
+use Rattle.rules.specs.Board.{Reshape, Board, mostMachines, mostCommittees, onMachines, onReshapes}
+use Rattle.rules.specs.WellFormed.{wellFormed}
 use Rattle.rules.specs.Moves.{membersOf, place, join, putOn, mayJoin, heightOf}
 use Rattle.rules.proofs.Counts.{eqb-apart, hit-same, occ, occ-single}
-use Rattle.rules.proofs.Tests.{and-parts, and-joins, or-left, or-right, le-of, of-le, eq-of, has-occ, not-of}
+use Rattle.rules.proofs.Tests.{and-joins, or-left, or-right, of-le, eq-of, has-occ, not-of}
 use Rattle.rules.proofs.KeptBoard.{Fit, Good, good-of, fit-at}
 use Rattle.rules.proofs.KeptMoves.{Joins}
 use Rattle.tables.proofs.Keys.{at-is}
@@ -78,18 +78,6 @@ row-fit b ok i l = fit-at (good-of b ok) _ _ (at-is (b .reshapes) (reshapes-rise
 pub put-elsewhere : (s : Shard) (f : Table Reshape → Table Reshape) (move : Place → Place) (x : Id) (b : Board) → putOn s move x (onReshapes f b) ≡ onReshapes f (putOn s move x b)
 unfolding putOn join place membersOf
 put-elsewhere s f move x b = refl
-
--- ---- what is asked of a target
-
-pub target-within : (t : Shard) → isTarget t ≡ true → t ≤ lastTarget
-target-within t ok = le-of t lastTarget (and-parts _ _ ok .1)
-
-pub no-target : (b : Board) → wellFormed b ≡ true → (t : Shard) → isTarget t ≡ false → at t (b .reshapes) ≡ none
-no-target b ok t n = go (at t (b .reshapes)) refl
-  where
-    go : (o : Option Reshape) → at t (b .reshapes) ≡ o → o ≡ none
-    go none e = refl
-    go (some r) e = absurd (true≢false (sym (fit-at (good-of b ok) t r e .target) ∙ n))
 
 pub height-is : (b : Board) → wellFormed b ≡ true → (s : Shard) (v : ℕ) → v < length (b .bounds) → getD (b .bounds) v noBoundary .key ≡ s
     → heightOf s b ≡ getD (b .bounds) v noBoundary .val .height

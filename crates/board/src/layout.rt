@@ -84,3 +84,13 @@ pub const RIGHT_AT: usize = LEFT_AT + HALF_SIZE;
 pub const RESHAPE_WIDTH: usize = RIGHT_AT + HALF_SIZE;
 
 pub const BOARD_SIZE: usize = RESHAPES_AT + 1 + MOST_RESHAPES * RESHAPE_WIDTH;
+
+// ---- The ranges of rules/specs/Board.antt
+
+pub const LAST_EPOCH: u64 = 4294967295;
+
+pub const MOST_EPOCHS: u64 = 1000000;
+
+pub const LAST_SHARD: u64 = 65535;
+
+pub const LAST_TARGET: u64 = 32767;

@@ -1,23 +1,17 @@
 // Scheduled splits: no rotation on the target, and each machine seated there in exactly one half.
-use board::layout::HALF_SIZE;
-use board::layout::LEFT_AT;
-use board::layout::MOST_HALF;
 use board::layout::MOST_MACHINES;
 use board::layout::MOST_RESHAPES;
-use board::layout::RESHAPE_WIDTH;
-use board::layout::RESHAPES_AT;
-use board::layout::RIGHT_AT;
 use board::machines;
 use reshapes::fields;
+use reshapes::halves;
 use shards::rotations;
 use types::Machine;
 use types::ShardId;
-use types::ValidatorId;
 ghost use mathlib.Core.Path.{_≡_};
 ghost use mathlib.Core.Bool.{true, not};
 ghost use Prim.Native.Nat.{_<_};
 ghost use lib.ListN.{length, getD};
-ghost use Rattle.rules.specs.Lists.{every, any, has};
+ghost use Rattle.rules.specs.Lists.{every, any};
 ghost use Rattle.rules.specs.Board.{Board, mostReshapes};
 ghost use Rattle.rules.specs.WellFormed.{wellFormed};
 ghost use Rattle.rules.specs.Moves.{isOn};
@@ -28,24 +22,6 @@ ghost use Rattle.board.specs.Leaves.{machineEntry};
 ghost use Rattle.carved.specs.Rows.{splitFits};
 
 // ---- halves
-
-pub fn is_in_left(board: &[u64], i: usize, id: ValidatorId) -> bool
-    requires { ⌜ (length (now board) ≡ boardSize) × (i < mostReshapes) ⌝ }
-    ensures { λ r. ⌜ ((b : Board) → Holds (now (board .entry)) b → i < length (b .reshapes) → r ≡ has (id .0) (getD (b .reshapes) i noReshape .val .left)) ⌝ }
-{
-    let a = RESHAPES_AT + 1 + i * RESHAPE_WIDTH + LEFT_AT;
-    let e = a + HALF_SIZE;
-    tables::contains(&board[a..e], MOST_HALF, id.0)
-}
-
-pub fn is_in_right(board: &[u64], i: usize, id: ValidatorId) -> bool
-    requires { ⌜ (length (now board) ≡ boardSize) × (i < mostReshapes) ⌝ }
-    ensures { λ r. ⌜ ((b : Board) → Holds (now (board .entry)) b → i < length (b .reshapes) → r ≡ has (id .0) (getD (b .reshapes) i noReshape .val .right)) ⌝ }
-{
-    let a = RESHAPES_AT + 1 + i * RESHAPE_WIDTH + RIGHT_AT;
-    let e = a + HALF_SIZE;
-    tables::contains(&board[a..e], MOST_HALF, id.0)
-}
 
 // A machine seated on the target is in one half of the split at i.
 pub fn is_in_one_half(board: &[u64], i: usize, target: ShardId, m: Machine) -> bool
@@ -58,7 +34,7 @@ pub fn is_in_one_half(board: &[u64], i: usize, target: ShardId, m: Machine) -> b
     if !p.is_seated_on(target) {
         return true;
     }
-    is_in_left(board, i, id) != is_in_right(board, i, id)
+    halves::is_in_left(board, i, id) != halves::is_in_right(board, i, id)
 }
 
 fn halves_fit(board: &[u64], i: usize, target: ShardId) -> bool

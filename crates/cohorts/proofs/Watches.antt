@@ -34,8 +34,7 @@ use Rattle.board.specs.Leaves.{changeAt}
 use Rattle.board.proofs.Fitting.{held-as, insert-length}
 use Rattle.board.proofs.Keyed.{update-is-change, committees-rise, reshapes-rise}
 use Rattle.board.proofs.Moves.{place-none}
-use Rattle.reshapes.proofs.SeatMoves.{seat-opened}
-use Rattle.lapses.proofs.Lapses.{seatsAt}
+use Rattle.reshapes.proofs.SeatMoves.{seatsInRow, seat-opened}
 
 -- ---- one id
 
@@ -56,7 +55,7 @@ module _ (after : List ℕ) (b : Board) (t x : ℕ) where
 pub place-within : (x : ℕ) (t : Table Seat) (k : ℕ) → k ≡ placeOf keyOf x t → k ≤ length t
 place-within x t k e = omega (arith, e, first-most (λ (d : Entry Seat). leb x (d .key)) t)
 
-pub seat-made : (after : List ℕ) (b : Board) (i k x c : ℕ) → Rising keyOf (b .reshapes) → i < length (b .reshapes) → Rising keyOf (seatsAt i b) → at x (seatsAt i b) ≡ none → k ≡ placeOf keyOf x (seatsAt i b)
+pub seat-made : (after : List ℕ) (b : Board) (i k x c : ℕ) → Rising keyOf (b .reshapes) → i < length (b .reshapes) → Rising keyOf (seatsInRow i b) → at x (seatsInRow i b) ≡ none → k ≡ placeOf keyOf x (seatsInRow i b)
     → Holds after (onReshapes (changeAt noReshape i (withSeats (λ t. insertAt t k (entry x (newSeat c))))) b)
     → Holds after (onReshapes (update (getD (b .reshapes) i noReshape .key) (withSeats (put x (newSeat c)))) b)
 seat-made after b i k x c r l s n e h = held-as after _ _ (sym (seat-opened b _ i r l refl x (newSeat c) s n)) (rw e at h)
@@ -126,11 +125,11 @@ pub record Watched (t i : ℕ) (ids : List Id) (b : Board) (k : ℕ) (ws : List 
   pub coming : Watching t (drop k ids) board
   pub row : i < length (board .reshapes)
   pub named : getD (board .reshapes) i noReshape .key ≡ t
-  pub absent : (x : ℕ) → 1 ≤ occ x (drop k ids) → at x (seatsAt i board) ≡ none
+  pub absent : (x : ℕ) → 1 ≤ occ x (drop k ids) → at x (seatsInRow i board) ≡ none
   pub rest : watchFrom t (drop k ids) (halfUp (sizeOf b) - k) board ≡ watchAll t ids b
 
 pub none-watched : (t i : ℕ) (ids : List Id) (b : Board) (ws : List ℕ) → Holds ws b → wellFormed b ≡ true → i < length (b .reshapes) → getD (b .reshapes) i noReshape .key ≡ t
-    → isEmpty (seatsAt i b) ≡ true → goodIds mostSeats ids ≡ true → mayJoin t ids b ≡ true → Watched t i ids b 0 ws
+    → isEmpty (seatsInRow i b) ≡ true → goodIds mostSeats ids ≡ true → mayJoin t ids b ≡ true → Watched t i ids b 0 ws
 unfolding watchAll
 none-watched t i ids b ws h ok l e empty good may = record {
   board = b;
@@ -138,11 +137,11 @@ none-watched t i ids b ws h ok l e empty good may = record {
   coming = record {
     good = g;
     joins = joins-of g t (family t (fit-at g t _ there .target) .target) (Ids-part its (omega (arith, its .room)) (λ x. omega arith)) may;
-    seats = λ r q. omega (arith, ap (λ (o : Option Reshape). seatsIn o) (sym there ∙ q), no-seats (seatsAt i b) empty, its .room);
+    seats = λ r q. omega (arith, ap (λ (o : Option Reshape). seatsIn o) (sym there ∙ q), no-seats (seatsInRow i b) empty, its .room);
   };
   row = l;
   named = e;
-  absent = λ x o. none-at (seatsAt i b) x empty;
+  absent = λ x o. none-at (seatsInRow i b) x empty;
   rest = ap (λ (n : ℕ). watchFrom t ids n b) whole ∙ watch-each t ids (halfUp (sizeOf b)) b;
 }
   where
@@ -193,17 +192,17 @@ module _ (t i : ℕ) (ids : List Id) (b : Board) (k : ℕ) (ws : List ℕ) (w : 
     at-row : getD (watch t child x now .reshapes) i noReshape ≡ entry (getD (now .reshapes) i noReshape .key) seated
     at-row = ap (λ (r : Table Reshape). getD r i noReshape) then ∙ getD-set-same (now .reshapes) i _ noReshape (w .row)
 
-    still-absent : (y : ℕ) → 1 ≤ occ y (drop (k + 1) ids) → at y (put x (newSeat child) (seatsAt i now)) ≡ none
+    still-absent : (y : ℕ) → 1 ≤ occ y (drop (k + 1) ids) → at y (put x (newSeat child) (seatsInRow i now)) ≡ none
     unfolding occ
-    still-absent y o = at-put y x (newSeat child) (seatsAt i now) ∙ go (alike y x)
+    still-absent y o = at-put y x (newSeat child) (seatsInRow i now) ∙ go (alike y x)
       where
-        go : Alike y x → cond (eqb y x) (some (newSeat child)) (at y (seatsAt i now)) ≡ none
+        go : Alike y x → cond (eqb y x) (some (newSeat child)) (at y (seatsInRow i now)) ≡ none
         go (same p q) = absurd (omega (arith, rw p at o, coming .joins .once x, hit-same x))
         go (apart p q) = rw q (w .absent y (rw next (omega arith)))
 
     pub one-watched : (d : Shard) → d ≡ child → (after : List ℕ)
-        → ((c : Board) → Holds ws c → wellFormed c ≡ true → i < length (c .reshapes) → getD (c .reshapes) i noReshape .key ≡ t → mayJoin t (x ∷ []) c ≡ true → length (seatsAt i c) < mostSeats
-        → at x (seatsAt i c) ≡ none → Holds after (watch t d x c))
+        → ((c : Board) → Holds ws c → wellFormed c ≡ true → i < length (c .reshapes) → getD (c .reshapes) i noReshape .key ≡ t → mayJoin t (x ∷ []) c ≡ true → length (seatsInRow i c) < mostSeats
+        → at x (seatsInRow i c) ≡ none → Holds after (watch t d x c))
         → Watched t i ids b (k + 1) after
     unfolding occ
     one-watched d p after step = record {

@@ -1,6 +1,7 @@
 // Rotate: one shard's turn, with a victim given. It plans, then applies: every refusal comes before the first write.
 use super::reads;
 use super::reads::Counted;
+use board::layout::LAST_SHARD;
 use board::layout::MOST_COMMITTEES;
 use board::layout::MOST_ROTATIONS;
 use board::machines;
@@ -31,8 +32,6 @@ ghost use Rattle.board.specs.Permitted.{PermittedStep};
 ghost use Rattle.pool.specs.Told.{TellsTurn};
 ghost use Rattle.steps.specs.Inner.{Steps};
 ghost use Rattle.committee.specs.Opened.{RowFor, opened};
-
-const LAST_SHARD: u64 = 65535;
 
 fn is_shard(shard: ShardId) -> bool
     ensures { λ r. ⌜ r ≡ isShard (shard .0) ⌝ }

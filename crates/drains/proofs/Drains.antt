@@ -3,7 +3,7 @@ use Prim.Native.Nat.{ℕ, _≤_}
 use mathlib.Core.Path.{_≡_, refl, sym, _∙_}
 use mathlib.Core.List.{List, [], _∷_}
 use mathlib.Core.Option.{Option, none, some}
-use mathlib.Core.Bool.{Bool, true, false, cond, not, _&&_, false≢true}
+use mathlib.Core.Bool.{Bool, true, false, cond, not, _&&_}
 use lib.Dec.{eqb}
 use lib.ListN.{getD}
 use Rattle.types.specs.Numbers.{Shard, Id, Epoch}
@@ -12,13 +12,13 @@ use Rattle.types.specs.declared.Answer.the-variants.{NoBoundary}
 use Rattle.rules.specs.Lists.{_and_}
 use Rattle.rules.specs.Table.{Entry, isSome, at, update}
 use Rattle.rules.specs.Board as rules
-use Rattle.rules.specs.Board.{split, merge, Reshape, Board, lastTarget, onReshapes, sizeOf}
-use Rattle.rules.specs.WellFormed.{isTarget, goodSettings, wellFormed}
+use Rattle.rules.specs.Board.{split, merge, Reshape, Board, onReshapes, sizeOf}
+use Rattle.rules.specs.WellFormed.{goodSettings, wellFormed}
 use Rattle.rules.specs.Moves.{withDrainBy, isKind, boundsStand}
 use Rattle.rules.specs.Turns.{Turn, finished, refused, _gives_, checked}
 use Rattle.rules.specs.Schedule.{isQuiet, scheduled, drainEnd, drainOrSchedule}
 use Rattle.rules.proofs.Tests.{and-parts, all-parts, le-of}
-use Rattle.rules.proofs.KeptBoard.{good-of, fit-at}
+use Rattle.rules.proofs.KeptBoard.{good-of}
 use Rattle.rules.proofs.SeatsMoves.{kind-is}
 use Rattle.tables.proofs.Bools.{and-is}
 use Rattle.tables.proofs.Keys.{at-is}
@@ -109,15 +109,5 @@ module _ (t : Shard) (r : Reshape) (left right : List Id) (draws : List ℕ) (b 
 -- ---- a reshape's row
 
 module _ (b : Board) (ok : wellFormed b ≡ true) (t : Shard) where
-  pub no-target : isTarget t ≡ false → at t (b .reshapes) ≡ none
-  no-target n = go (at t (b .reshapes)) refl
-    where
-      go : (o : Option Reshape) → at t (b .reshapes) ≡ o → o ≡ none
-      go none e = refl
-      go (some r) e = absurd (false≢true (sym n ∙ fit-at (good-of b ok) t r e .target))
-
   pub row-at : (i : ℕ) → RowOf t i b → at t (b .reshapes) ≡ some (getD (b .reshapes) i noReshape .val)
   row-at i r = at-is (b .reshapes) (reshapes-rise b ok) t i noReshape (r .inside) (r .named)
-
-pub target-small : (t : Shard) → isTarget t ≡ true → t ≤ lastTarget
-target-small t y = le-of _ _ (and-parts _ _ y .1)

@@ -13,13 +13,13 @@ use Rattle.types.specs.Shards.{leftOf, rightOf}
 use Rattle.types.specs.declared.Answer.the-variants.{OutOfRange, NoBoundary, FamilyTaken}
 use Rattle.rules.specs.Lists.{_and_, _or_, every, any, has}
 use Rattle.rules.specs.Table.{Table, at, stands, keysWhere, keysOf}
-use Rattle.rules.specs.Board.{Kind, Reshape, Board, lastTarget}
+use Rattle.rules.specs.Board.{Kind, Reshape, Board}
 use Rattle.rules.specs.WellFormed.{isTarget, wellFormed}
 use Rattle.rules.specs.Moves.{overlaps, committeesFit, boundsStand}
 use Rattle.rules.specs.Turns.{Turn, refused, checked}
 use Rattle.rules.specs.Reshapes.{familyFree, admissionFaults}
 use Rattle.rules.proofs.Counts.{Alike, same, apart, alike}
-use Rattle.rules.proofs.Tests.{and-parts, of-not, le-of}
+use Rattle.rules.proofs.Tests.{of-not}
 use Rattle.tables.proofs.Bools.{and-is, and-end}
 use Rattle.board.specs.Held.{noReshape}
 use Rattle.pool.proofs.Pools.{keys-none, keys-here}
@@ -153,9 +153,6 @@ module _ (t : Shard) (b : Board) (m : Bool) where
   split-bounds n p parent = rw (n, ← parent, and-end p)
 
 -- ---- the first fault decides
-
-pub target-within : (t : Shard) → isTarget t ≡ true → t ≤ lastTarget
-target-within t y = le-of _ _ (and-parts _ _ y .1)
 
 module _ (k : Kind) (t : Shard) (b : Board) (ok : wellFormed b ≡ true) where
   pub no-target : isTarget t ≡ false → (turn : Turn) → checked (admissionFaults k t b) turn ≡ refused OutOfRange

@@ -33,7 +33,7 @@ use Rattle.board.specs.Leaves.{changeAt}
 use Rattle.board.proofs.Fitting.{held-as}
 use Rattle.board.proofs.Keyed.{machines-rise, reshapes-rise, seats-rise}
 use Rattle.board.proofs.Moves.{place-at}
-use Rattle.reshapes.proofs.SeatMoves.{reshape-at}
+use Rattle.reshapes.proofs.SeatMoves.{seatsInRow, reshape-at}
 use Rattle.pool.proofs.Pools.{keys-none, keys-here}
 use Rattle.rows.specs.Found.{Found}
 use Rattle.rows.proofs.Asked.{holds-none, says-at}
@@ -41,9 +41,6 @@ use Rattle.moves.specs.declared.Exit.the-variants.{FromWatch}
 use Rattle.moves.proofs.Exiting.{kind-split, no-record, record-placed}
 use Rattle.moves.proofs.Kept.{placed-well}
 use Rattle.steps.specs.Inner.{outcome, Step}
-
-abbrev pub seatsAt : ℕ → Board → Table Seat
-seatsAt i b = getD (b .reshapes) i noReshape .val .seats
 
 -- ---- the ids of a table, and those from row k on, as a loop goes
 
@@ -124,25 +121,25 @@ pub record Gone (t : Shard) (i : ℕ) (b : Board) (k r : ℕ) (ws : List ℕ) : 
   pub held : Holds ws board
   pub good : wellFormed board ≡ true
   pub reshapes : board .reshapes ≡ b .reshapes
-  pub rest : forAll (sendBack t) (keysOf (drop k (seatsAt i b))) board ≡ forAll (sendBack t) (keysOf (seatsAt i b)) b
-  pub told : r + count (says (observes t) board) (keysOf (drop k (seatsAt i b))) ≡ count (says (observes t) b) (keysOf (seatsAt i b))
+  pub rest : forAll (sendBack t) (keysOf (drop k (seatsInRow i b))) board ≡ forAll (sendBack t) (keysOf (seatsInRow i b)) b
+  pub told : r + count (says (observes t) board) (keysOf (drop k (seatsInRow i b))) ≡ count (says (observes t) b) (keysOf (seatsInRow i b))
 
 pub none-gone : (t : Shard) (i : ℕ) (b : Board) (ws : List ℕ) → Holds ws b → wellFormed b ≡ true → Gone t i b 0 0 ws
 none-gone t i b ws h ok = record { board = b; held = h; good = ok; reshapes = refl; rest = refl; told = omega arith }
 
 module _ (t : Shard) (i : ℕ) (b : Board) (k r : ℕ) (ws : List ℕ) (w : Gone t i b k r ws) (l : i < length (b .reshapes)) where
   -- the seats are read where they still stand
-  same-seats : seatsAt i (w .board) ≡ seatsAt i b
+  same-seats : seatsInRow i (w .board) ≡ seatsInRow i b
   same-seats = ap (λ (u : Table Reshape). getD u i noReshape .val .seats) (w .reshapes)
 
-  pub one-gone : wellFormed b ≡ true → (after : List ℕ) → k < length (seatsAt i b) → (q : Entry Seat)
-      → ((c : Board) → Holds ws c → i < length (c .reshapes) → k < length (seatsAt i c) → q ≡ getD (seatsAt i c) k noSeat) → (s : ℕ)
+  pub one-gone : wellFormed b ≡ true → (after : List ℕ) → k < length (seatsInRow i b) → (q : Entry Seat)
+      → ((c : Board) → Holds ws c → i < length (c .reshapes) → k < length (seatsInRow i c) → q ≡ getD (seatsInRow i c) k noSeat) → (s : ℕ)
       → ((c : Board) → Holds ws c → wellFormed c ≡ true → (s ≡ bitOf (says (observes t) c (q .key))) × Holds after (sendBack t (q .key) c)) → Gone t i b (k + 1) (r + s) after
   unfolding forAll place
   one-gone ok after m q read s step =
-      let e : q ≡ getD (seatsAt i b) k noSeat = read (w .board) (w .held) (rw (w .reshapes) l) (rw same-seats m) ∙ rw same-seats in
-      let x : getD (seatsAt i b) k noSeat .key ≡ q .key = ap (λ (y : Entry Seat). y .key) (sym e) in
-      let next : keysOf (drop k (seatsAt i b)) ≡ q .key ∷ keysOf (drop (k + 1) (seatsAt i b)) = keys-next (seatsAt i b) k m ∙ rw x in
+      let e : q ≡ getD (seatsInRow i b) k noSeat = read (w .board) (w .held) (rw (w .reshapes) l) (rw same-seats m) ∙ rw same-seats in
+      let x : getD (seatsInRow i b) k noSeat .key ≡ q .key = ap (λ (y : Entry Seat). y .key) (sym e) in
+      let next : keysOf (drop k (seatsInRow i b)) ≡ q .key ∷ keysOf (drop (k + 1) (seatsInRow i b)) = keys-next (seatsInRow i b) k m ∙ rw x in
       let done = step (w .board) (w .held) (w .good) in
       record {
         board = sendBack t (q .key) (w .board);
@@ -151,24 +148,24 @@ module _ (t : Shard) (i : ℕ) (b : Board) (k r : ℕ) (ws : List ℕ) (w : Gone
         reshapes = w .reshapes;
         rest = sym (ap (λ (ids : List ℕ). forAll (sendBack t) ids (w .board)) next) ∙ w .rest;
         told =
-            let kept : count (says (observes t) (sendBack t (q .key) (w .board))) (keysOf (drop (k + 1) (seatsAt i b))) ≡ count (says (observes t) (w .board)) (keysOf (drop (k + 1) (seatsAt i b))) =
+            let kept : count (says (observes t) (sendBack t (q .key) (w .board))) (keysOf (drop (k + 1) (seatsInRow i b))) ≡ count (says (observes t) (w .board)) (keysOf (drop (k + 1) (seatsInRow i b))) =
             count-same _ _ _ (λ y o. other-says t (q .key) y (w .board) (apart next y o)) in
             omega (arith, kept, done .0, w .told, counted next);
       }
     where
       -- the ids are distinct
-      apart : keysOf (drop k (seatsAt i b)) ≡ q .key ∷ keysOf (drop (k + 1) (seatsAt i b)) → (y : ℕ) → 1 ≤ occ y (keysOf (drop (k + 1) (seatsAt i b))) → y ≢ q .key
-      apart next y o z = omega (arith, keys-once (seatsAt i b) k (seats-rise b ok i l) y, ap (occ y) next, occ-head y (q .key) (keysOf (drop (k + 1) (seatsAt i b))), ap (hit y) z, hit-same y)
+      apart : keysOf (drop k (seatsInRow i b)) ≡ q .key ∷ keysOf (drop (k + 1) (seatsInRow i b)) → (y : ℕ) → 1 ≤ occ y (keysOf (drop (k + 1) (seatsInRow i b))) → y ≢ q .key
+      apart next y o z = omega (arith, keys-once (seatsInRow i b) k (seats-rise b ok i l) y, ap (occ y) next, occ-head y (q .key) (keysOf (drop (k + 1) (seatsInRow i b))), ap (hit y) z, hit-same y)
 
-      counted : keysOf (drop k (seatsAt i b)) ≡ q .key ∷ keysOf (drop (k + 1) (seatsAt i b))
-          → count (says (observes t) (w .board)) (keysOf (drop k (seatsAt i b))) ≡ bitOf (says (observes t) (w .board) (q .key)) + count (says (observes t) (w .board)) (keysOf (drop (k + 1) (seatsAt i b)))
-      counted next = ap (count (says (observes t) (w .board))) next ∙ count-head (says (observes t) (w .board)) (q .key) (keysOf (drop (k + 1) (seatsAt i b)))
+      counted : keysOf (drop k (seatsInRow i b)) ≡ q .key ∷ keysOf (drop (k + 1) (seatsInRow i b))
+          → count (says (observes t) (w .board)) (keysOf (drop k (seatsInRow i b))) ≡ bitOf (says (observes t) (w .board) (q .key)) + count (says (observes t) (w .board)) (keysOf (drop (k + 1) (seatsInRow i b)))
+      counted next = ap (count (says (observes t) (w .board))) next ∙ count-head (says (observes t) (w .board)) (q .key) (keysOf (drop (k + 1) (seatsInRow i b)))
 
   -- past the last
-  pub all-gone : length (seatsAt i b) ≤ k → (r ≡ count (says (observes t) b) (keysOf (seatsAt i b))) × Holds ws (forAll (sendBack t) (keysOf (seatsAt i b)) b)
+  pub all-gone : length (seatsInRow i b) ≤ k → (r ≡ count (says (observes t) b) (keysOf (seatsInRow i b))) × Holds ws (forAll (sendBack t) (keysOf (seatsInRow i b)) b)
   unfolding forAll count
   all-gone m =
-      let none = keys-end (seatsAt i b) k m in (
+      let none = keys-end (seatsInRow i b) k m in (
         omega (arith, w .told, ap (count (says (observes t) (w .board))) none),
         held-as ws _ _ (sym (ap (λ (ids : List ℕ). forAll (sendBack t) ids (w .board)) none) ∙ w .rest) (w .held),
       )
@@ -177,34 +174,34 @@ module _ (t : Shard) (i : ℕ) (b : Board) (k r : ℕ) (ws : List ℕ) (w : Gone
 
 module _ (t : Shard) (i : ℕ) (b : Board) (ok : wellFormed b ≡ true) (l : i < length (b .reshapes)) (named : getD (b .reshapes) i noReshape .key ≡ t) where
   abbrev sent : Board
-  sent = forAll (sendBack t) (keysOf (seatsAt i b)) b
+  sent = forAll (sendBack t) (keysOf (seatsInRow i b)) b
 
   pub sent-well : wellFormed sent ≡ true
-  sent-well = forAll-keeps (λ c. wellFormed c ≡ true) (sendBack t) (λ x c g. placed-well c g x FromWatch t) (keysOf (seatsAt i b)) b ok
+  sent-well = forAll-keeps (λ c. wellFormed c ≡ true) (sendBack t) (λ x c g. placed-well c g x FromWatch t) (keysOf (seatsInRow i b)) b ok
 
   sent-reshapes : sent .reshapes ≡ b .reshapes
   unfolding place
-  sent-reshapes = forAll-keeps (λ c. c .reshapes ≡ b .reshapes) (sendBack t) (λ x c e. e) (keysOf (seatsAt i b)) b refl
+  sent-reshapes = forAll-keeps (λ c. c .reshapes ≡ b .reshapes) (sendBack t) (λ x c e. e) (keysOf (seatsInRow i b)) b refl
 
   pub sent-there : i < length (sent .reshapes)
   sent-there = rw sent-reshapes l
 
-  struck : forAll (takeOff t (pooledFrom (observes t))) (cohortOf t b) b ≡ onCommittees (update t (keep (λ x. not (stands x (seatsAt i sent))))) sent
+  struck : forAll (takeOff t (pooledFrom (observes t))) (cohortOf t b) b ≡ onCommittees (update t (keep (λ x. not (stands x (seatsInRow i sent))))) sent
   unfolding cohortOf
   struck =
-      let cohort : cohortOf t b ≡ keysOf (seatsAt i b) = rw (at-is (b .reshapes) (reshapes-rise b ok) t i noReshape l named, cohortOf) in
-      let seats : seatsAt i b ≡ seatsAt i sent = ap (λ (u : Table Reshape). getD u i noReshape .val .seats) (sym sent-reshapes) in
-      let tests : _≡_ {A = Id → Bool} (λ x. not (has x (keysOf (seatsAt i b)))) (λ x. not (stands x (seatsAt i sent))) =
-      fun-ext (λ x. ap not (has-keys x (seatsAt i b) ∙ ap (stands x) seats)) in
+      let cohort : cohortOf t b ≡ keysOf (seatsInRow i b) = rw (at-is (b .reshapes) (reshapes-rise b ok) t i noReshape l named, cohortOf) in
+      let seats : seatsInRow i b ≡ seatsInRow i sent = ap (λ (u : Table Reshape). getD u i noReshape .val .seats) (sym sent-reshapes) in
+      let tests : _≡_ {A = Id → Bool} (λ x. not (has x (keysOf (seatsInRow i b)))) (λ x. not (stands x (seatsInRow i sent))) =
+      fun-ext (λ x. ap not (has-keys x (seatsInRow i b) ∙ ap (stands x) seats)) in
       ap (λ (ids : List ℕ). forAll (takeOff t (pooledFrom (observes t))) ids b) cohort
-      ∙ taken-apart (pooledFrom (observes t)) t (keysOf (seatsAt i b)) b
+      ∙ taken-apart (pooledFrom (observes t)) t (keysOf (seatsInRow i b)) b
       ∙ ap (λ (f : Id → Bool). onCommittees (update t (keep f)) sent) tests
 
-  pub all-released : (mid after : List ℕ) → Holds mid (onCommittees (update t (keep (λ x. not (stands x (seatsAt i sent))))) sent)
+  pub all-released : (mid after : List ℕ) → Holds mid (onCommittees (update t (keep (λ x. not (stands x (seatsInRow i sent))))) sent)
       → ((c : Board) → Holds mid c → i < length (c .reshapes) → Holds after (onReshapes (changeAt noReshape i (withSeats (λ s. []))) c)) → Holds after (released t b)
   unfolding released
   all-released mid after h step =
-      let c = onCommittees (update t (keep (λ x. not (stands x (seatsAt i sent))))) sent in
+      let c = onCommittees (update t (keep (λ x. not (stands x (seatsInRow i sent))))) sent in
       rw struck
       (held-as after _ _ (sym (reshape-at c t i (reshapes-rise sent sent-well) sent-there (rw sent-reshapes named) (withSeats (λ s. []))))
       (step c h sent-there))
@@ -238,7 +235,7 @@ module _ (b : Board) (ok : wellFormed b ≡ true) (after : List ℕ) (r : Outcom
       pub a-merge : isKind merge (getD (b .reshapes) i noReshape .val) ≡ true → Holds after b → r ≡ outcome NotThere 0 0 → Step (lapse t) b after r
       a-merge m h e = not-there (splits true m) h e
 
-      pub lapsed : isKind merge (getD (b .reshapes) i noReshape .val) ≡ false → (n : ℕ) → n ≡ count (says (observes t) b) (keysOf (seatsAt i b)) → Holds after (released t b) → r ≡ outcome Done n 0
+      pub lapsed : isKind merge (getD (b .reshapes) i noReshape .val) ≡ false → (n : ℕ) → n ≡ count (says (observes t) b) (keysOf (seatsInRow i b)) → Holds after (released t b) → r ≡ outcome Done n 0
           → Step (lapse t) b after r
       unfolding lapse alone checked cohortOf
       lapsed m n c h e =

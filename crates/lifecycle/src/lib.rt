@@ -1,4 +1,5 @@
 // The steps that change no committee: tick and the ready timeout.
+use board::layout::LAST_EPOCH;
 use board::layout::MOST_MACHINES;
 use board::machines;
 use board::settings;
@@ -18,8 +19,6 @@ ghost use Rattle.board.specs.Permitted.{PermittedStep};
 ghost use Rattle.rules.specs.Places.{tick, timeOut};
 ghost use Rattle.lifecycle.specs.Ages.{aged};
 ghost use Rattle.steps.specs.Inner.{Steps};
-
-const LAST_EPOCH: u64 = 4294967295;
 
 // Tick, for words that are known to hold a well-formed board.
 pub fn tick_held(board: &mut [u64]) -> Outcome

@@ -10,7 +10,7 @@ use Rattle.rules.specs.Board.{Rotation, Board}
 use Rattle.rules.specs.Moves.{says, hasParty}
 use Rattle.rules.specs.SeatCheck.{partiesOn, partiesFit, rotationsFit}
 use Rattle.rules.proofs.Counts.{Alike, same, apart, alike, eqb-same}
-use Rattle.rules.proofs.Tests.{and-parts, and-joins, every-parts, every-join, every-none, every-weaken}
+use Rattle.rules.proofs.Tests.{and-parts, and-joins, every-parts, every-all, every-weaken}
 use Rattle.tables.proofs.Bools.{or-is, and-is}
 use Rattle.parties.specs.Pairs as pairs
 use Rattle.parties.specs.Pairs.{shareParty, fitsBefore}
@@ -51,10 +51,6 @@ apart-is r (q ∷ l) = ap (λ (c : Bool). not (shareParty r q) and c) (apart-is 
     go false true true f = refl
     go false true false f = refl
     go false false e f = refl
-
-every-all : {A : Type 0} (f : A → Bool) → ((a : A) → f a ≡ true) → (l : List A) → every f l ≡ true
-every-all f h [] = every-none _
-every-all f h (a ∷ l) = every-join _ _ _ (h a) (every-all f h l)
 
 module _ (b : Board) where
   pub fits-is : (r : Rotation) (l : List Rotation) (c d e : Bool) → c ≡ pairs.apart r l → d ≡ says (isSeatedOn (r .shard)) b (r .victim) → e ≡ says (isSeatedOn (r .shard)) b (r .entrant)

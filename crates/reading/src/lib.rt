@@ -1,5 +1,6 @@
 // Bytes to the lent words of a board: first whether they are a well-formed board's snapshot, then its words.
 use board::layout::BOARD_SIZE;
+use board::layout::LAST_SHARD;
 use board::layout::MACHINE_WIDTH;
 use board::layout::MACHINES_AT;
 use board::layout::MOST_BOUNDS;
@@ -38,9 +39,6 @@ ghost use Rattle.snapshot.specs.ReadAs.{ReadAs};
 ghost use Rattle.unpacking.specs.AsWords.{AsWords};
 ghost use Rattle.reading.specs.Told.{TellsSnapshot};
 ghost use Rattle.reading.specs.Stream.{TellsRow, TellsSection, TellsHead};
-
-// As in rules/specs/Board.antt.
-const LAST_SHARD: u64 = 65535;
 
 // ---- Rows
 

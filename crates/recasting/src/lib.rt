@@ -1,5 +1,6 @@
 // The tables of a family at its cut, on lent words. The reshape's own row stays, since its lists are read after: it goes last.
 use board::committees;
+use board::layout::LAST_EPOCH;
 use board::layout::MOST_BOUNDS;
 use board::layout::MOST_COMMITTEES;
 use board::settings;
@@ -21,8 +22,6 @@ ghost use Rattle.rules.specs.Cut.{endShard, beginShard, recast, fits};
 ghost use Rattle.board.specs.Layout.{boardSize};
 ghost use Rattle.board.specs.Held.{Holds};
 ghost use Rattle.recasting.specs.Recast.{lack, familyCount, recastTables};
-
-const LAST_EPOCH: u64 = 4294967295;
 
 // ---- the room, asked before anything is written
 

@@ -18,6 +18,10 @@ use Rattle.board.specs.Leaves.{changeAt}
 use Rattle.board.proofs.Keyed.{update-is-change}
 use Rattle.reshapes.specs.Changes.{withLeft, withRight, atTerminal, newlyAdmitted}
 
+-- the seats of the reshape at a row
+abbrev pub seatsInRow : ℕ → Board → Table Seat
+seatsInRow i b = getD (b .reshapes) i noReshape .val .seats
+
 -- a reshape just admitted has the seats that are taken one after another
 pub admitted-is-new : (k : Kind) (b : Board) → newReshape k [] b ≡ newlyAdmitted k (epochOf b)
 admitted-is-new k b = refl

@@ -10,6 +10,7 @@ ghost use mathlib.Core.Path.{_≡_};
 ghost use mathlib.Core.List.{[], _∷_, _++_};
 ghost use Prim.Native.Nat.{_<_};
 ghost use lib.ListN.{length, getD};
+ghost use Rattle.rules.specs.Lists.{has};
 ghost use Rattle.rules.specs.Board.{Board, mostReshapes, mostHalf, onReshapes};
 ghost use Rattle.board.specs.Layout.{boardSize};
 ghost use Rattle.board.specs.Held.{Holds, noReshape};
@@ -48,6 +49,24 @@ pub fn right_at(ws: &[u64], i: usize, k: usize) -> ValidatorId
 {
     let a = RESHAPES_AT + 1 + i * RESHAPE_WIDTH + RIGHT_AT;
     ValidatorId(ws[a + (1 + k)])
+}
+
+pub fn is_in_left(ws: &[u64], i: usize, id: ValidatorId) -> bool
+    requires { ⌜ (length (now ws) ≡ boardSize) × (i < mostReshapes) ⌝ }
+    ensures { λ r. ⌜ ((b : Board) → Holds (now (ws .entry)) b → i < length (b .reshapes) → r ≡ has (id .0) (getD (b .reshapes) i noReshape .val .left)) ⌝ }
+{
+    let a = RESHAPES_AT + 1 + i * RESHAPE_WIDTH + LEFT_AT;
+    let e = a + HALF_SIZE;
+    tables::contains(&ws[a..e], MOST_HALF, id.0)
+}
+
+pub fn is_in_right(ws: &[u64], i: usize, id: ValidatorId) -> bool
+    requires { ⌜ (length (now ws) ≡ boardSize) × (i < mostReshapes) ⌝ }
+    ensures { λ r. ⌜ ((b : Board) → Holds (now (ws .entry)) b → i < length (b .reshapes) → r ≡ has (id .0) (getD (b .reshapes) i noReshape .val .right)) ⌝ }
+{
+    let a = RESHAPES_AT + 1 + i * RESHAPE_WIDTH + RIGHT_AT;
+    let e = a + HALF_SIZE;
+    tables::contains(&ws[a..e], MOST_HALF, id.0)
 }
 
 pub fn push_left(ws: &mut [u64], i: usize, id: ValidatorId)

@@ -1,5 +1,7 @@
 // Tests of a row's words, of each kind of table.
 use board::layout::COMMITTEE_WIDTH;
+use board::layout::LAST_SHARD;
+use board::layout::LAST_TARGET;
 use board::layout::LEFT_AT;
 use board::layout::MEMBERS_AT;
 use board::layout::MOST_HALF;
@@ -21,10 +23,6 @@ ghost use Rattle.row_tests.specs.Rows.{machineOk, committeeOk, optionOk,
 // ---- The ranges of rules/specs/Board.antt
 
 const LAST_STAMP: u64 = 8589934591;
-
-const LAST_SHARD: u64 = 65535;
-
-const LAST_TARGET: u64 = 32767;
 
 const LAST_MARK: u64 = 255;
 

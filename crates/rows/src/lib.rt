@@ -4,6 +4,7 @@ use board::layout::BOUNDARY_WIDTH;
 use board::layout::BOUNDS_AT;
 use board::layout::COMMITTEE_WIDTH;
 use board::layout::COMMITTEES_AT;
+use board::layout::LAST_TARGET;
 use board::layout::MACHINE_WIDTH;
 use board::layout::MACHINES_AT;
 use board::layout::MOST_BOUNDS;
@@ -29,8 +30,6 @@ ghost use Rattle.rules.specs.Moves.{says};
 ghost use Rattle.board.specs.Layout.{boardSize};
 ghost use Rattle.board.specs.Held.{Holds, noMachine, noCommittee, noBoundary, noReshape, noSeat};
 ghost use Rattle.rows.specs.Found.{Found};
-
-const LAST_TARGET: u64 = 32767;
 
 pub fn is_target(target: ShardId) -> bool
     ensures { λ r. ⌜ r ≡ isTarget (target .0) ⌝ }

@@ -1,8 +1,8 @@
 -- A good board: what `wellFormed` says of each part, and one part changed.
-use mathlib.Core.Path.{_≡_}
+use mathlib.Core.Path.{_≡_, refl, sym, _∙_}
 use mathlib.Core.List.{List}
-use mathlib.Core.Option.{some}
-use mathlib.Core.Bool.{Bool, true}
+use mathlib.Core.Option.{Option, none, some}
+use mathlib.Core.Bool.{Bool, true, false, true≢false}
 use Prim.Native.Nat.{ℕ, _+_, _*_, _≤_}
 use native.Mathlib.Omega.{arith}
 use Rattle.types.specs.Numbers.{Shard, Id, Epoch}
@@ -10,7 +10,7 @@ use Rattle.types.specs.Shards.{leftOf, rightOf}
 use Rattle.types.specs.declared.Place.{Place}
 use Rattle.rules.specs.Lists.{_and_, _or_, isEmpty}
 use Rattle.rules.specs.Table.{entry, Table, at}
-use Rattle.rules.specs.Board.{Settings, Boundary, Rotation, Seat, Reshape, Board, mostMachines, mostCommittees, mostBounds, mostReshapes, mostSeats, mostHalf, lastEpoch, lastStamp, onSettings, onMachines, onCommittees, onBounds, onRotations, onReshapes}
+use Rattle.rules.specs.Board.{Settings, Boundary, Rotation, Seat, Reshape, Board, mostMachines, mostCommittees, mostBounds, mostReshapes, mostSeats, mostHalf, lastEpoch, lastStamp, lastTarget, onSettings, onMachines, onCommittees, onBounds, onRotations, onReshapes}
 use Rattle.rules.specs.WellFormed.{isShard, isTarget, isStamp, goodOption, goodSettings, goodMachine, goodCommittee, goodBoundary, goodSeat, goodQuiet, mayHaveHalves, goodReshape, wellFormed}
 use Rattle.rules.specs.Moves.{withSeats, withQuiet, withDrainBy, withTerminal}
 use Rattle.rules.proofs.Tests.{and-parts, and-joins, all-parts, all-joins, le-of, of-le}
@@ -39,10 +39,13 @@ pub record Family (t : Shard) : Type 0 where
 pub shard-of : (s : Shard) → 1 ≤ s → s ≤ 65535 → isShard s ≡ true
 shard-of s a z = and-joins _ _ (of-le _ _ a) (of-le _ _ z)
 
+pub target-within : (t : Shard) → isTarget t ≡ true → t ≤ lastTarget
+target-within t h = le-of _ _ (and-parts _ _ h .1)
+
 pub family : (t : Shard) → isTarget t ≡ true → Family t
 family t h =
     let a : 1 ≤ t = le-of _ _ (and-parts _ _ h .0) in
-    let z : t ≤ 32767 = le-of _ _ (and-parts _ _ h .1) in
+    let z = target-within t h in
     record { least = a; target = shard-of _ a (omega arith); left = shard-of (2 * t) (omega arith) (omega arith); right = shard-of (2 * t + 1) (omega arith) (omega arith) }
 
 -- ---- reshapes
@@ -148,6 +151,14 @@ module _ {b : Board} (h : Good b) where
   -- a reshape that is looked up
   pub fit-at : (t : Shard) (r : Reshape) → at t (b .reshapes) ≡ some r → Fit t r
   fit-at t r e = fit-of t r (h .reshapes .each-good t r e)
+
+  -- no reshape is of a shard that is no target
+  pub no-target : (t : Shard) → isTarget t ≡ false → at t (b .reshapes) ≡ none
+  no-target t n = go (at t (b .reshapes)) refl
+    where
+      go : (o : Option Reshape) → at t (b .reshapes) ≡ o → o ≡ none
+      go none e = refl
+      go (some r) e = absurd (true≢false (sym (fit-at t r e .target) ∙ n))
 
   -- the epoch, with a number added that a setting limits, is in a stamp's range
   pub stamp : (n : ℕ) → n ≤ 1000000 → isStamp (b .settings .epoch + n) ≡ true

@@ -20,7 +20,7 @@ use Rattle.rules.specs.Places.{isScheduledSplit}
 use Rattle.rules.specs.SeatCheck.{membersAreThere, hasCohortSeat, isListed, machinesAreListed, cohortsWatch, partiesOn, partiesFit, rotationsFit, isInOneHalf, scheduledFit, familiesApart, reshapesStand, seatCheck}
 use Rattle.rules.proofs.Counts.{Alike, same, apart, alike, eqb-same, hit, hit-same, hit-apart, occ}
 use Rattle.rules.proofs.Tables.{tally, known-most, occ-keysWhere}
-use Rattle.rules.proofs.Tests.{and-parts, and-joins, or-cases, or-left, or-right, all-parts, all-joins, of-not, not-of, eq-of, of-eq, every-parts, every-join, every-none, every-has, has-every, every-at, at-every}
+use Rattle.rules.proofs.Tests.{and-parts, and-joins, or-cases, or-left, or-right, all-parts, all-joins, of-not, not-of, eq-of, of-eq, every-parts, every-all, every-has, has-every, every-at, at-every}
 use Rattle.rules.proofs.KeptLists.{distinct-once, once-distinct}
 use Rattle.rules.proofs.KeptTables.{at-keysWhere}
 use Rattle.rules.proofs.SeatsLaws.{bit-yes, bit-no, yes-bit, bit-most, holds-bit, stands-bit, tally-le, in-of, of-in, out-of, in-none, none-in}
@@ -84,10 +84,6 @@ even m n a c f g = go (alike m 0) (alike n 0)
     go (same p v) (apart q w) = absurd (omega (arith, g (omega arith)))
     go (apart p v) (same q w) = absurd (omega (arith, f (omega arith)))
     go (apart p v) (apart q w) = omega arith
-
-every-all : {A : Type 0} (f : A → Bool) → ((a : A) → f a ≡ true) → (l : List A) → every f l ≡ true
-every-all f h [] = every-none _
-every-all f h (a ∷ l) = every-join _ _ _ (h a) (every-all f h l)
 
 -- ---- members: 'an id is in s's committee exactly if its machine is seated on or observes s'
 

@@ -9,7 +9,7 @@ use lib.Dec.{eqb}
 use Rattle.types.specs.Numbers.{Shard, Id}
 use Rattle.types.specs.Places.{pooled}
 use Rattle.types.specs.declared.Place.{Place}
-use Rattle.rules.specs.Lists.{_or_, any, has, keep, strike}
+use Rattle.rules.specs.Lists.{_and_, _or_, any, has, keep, strike}
 use Rattle.rules.specs.Table.{entry, Table, at, each, update}
 use Rattle.rules.specs.Board.{Board, onMachines, onCommittees}
 use Rattle.rules.specs.Moves.{place, quit, takeOff, forAll, pooledFrom}
@@ -54,28 +54,28 @@ module _ {A : Type 0} where
       go v true = e v
       go v false = refl
 
-keep-all : (f : ℕ → Bool) → ((y : ℕ) → f y ≡ true) → (l : List ℕ) → keep f l ≡ l
+pub keep-all : (f : ℕ → Bool) → ((y : ℕ) → f y ≡ true) → (l : List ℕ) → keep f l ≡ l
 unfolding keep
 keep-all f e [] = refl
 keep-all f e (y ∷ l) = rw (e y) (ap (λ m. y ∷ m) (keep-all f e l))
 
-keep-keep : (f g h : ℕ → Bool) → ((y : ℕ) → cond (g y) (f y) false ≡ h y) → (l : List ℕ) → keep f (keep g l) ≡ keep h l
-unfolding keep
+pub keep-keep : (f g h : ℕ → Bool) → ((y : ℕ) → h y ≡ (g y and f y)) → (l : List ℕ) → keep f (keep g l) ≡ keep h l
+unfolding keep _and_
 keep-keep f g h e [] = refl
 keep-keep f g h e (y ∷ l) = go (g y) refl (keep-keep f g h e l)
   where
     go : (c : Bool) → g y ≡ c → keep f (keep g l) ≡ keep h l → keep f (keep g (y ∷ l)) ≡ keep h (y ∷ l)
-    go true p ih = rw (← e y, p, ih)
-    go false p ih = rw (← e y, p, ih)
+    go true p ih = rw (e y, p, ih)
+    go false p ih = rw (e y, p, ih)
 
 -- ---- all of a list taken off a shard, in one pass
 
 -- a committee after one of the list, then after the others
-struck : (x : Id) (l members : List Id) → keep (λ y. not (has y l)) (strike x members) ≡ keep (λ y. not (has y (x ∷ l))) members
-unfolding strike has any _or_
+pub struck : (x : Id) (l members : List Id) → keep (λ y. not (has y l)) (strike x members) ≡ keep (λ y. not (has y (x ∷ l))) members
+unfolding strike has any _or_ _and_
 struck x l = keep-keep _ _ _ (λ y. go y (alike y x))
   where
-    go : (y : Id) → Alike y x → cond (not (eqb y x)) (not (has y l)) false ≡ not (has y (x ∷ l))
+    go : (y : Id) → Alike y x → not (has y (x ∷ l)) ≡ (not (eqb y x) and not (has y l))
     go y (same u v) = rw (u, eqb-same)
     go y (apart u v) = rw (v, eqb-apart x y (λ e. u (sym e)))
 

@@ -112,6 +112,11 @@ module _ {A : Type 0} where
   every-append f [] m p q = q
   every-append f (x ∷ l) m p q = every-join _ _ _ (every-parts _ _ _ p .0) (every-append f l m (every-parts _ _ _ p .1) q)
 
+  -- a test that everything passes
+  pub every-all : (f : A → Bool) → ((x : A) → f x ≡ true) → (l : List A) → every f l ≡ true
+  every-all f h [] = every-none _
+  every-all f h (x ∷ l) = every-join _ _ _ (h x) (every-all f h l)
+
   -- a weaker test
   pub every-weaken : (f g : A → Bool) → ((x : A) → g x ≡ true → f x ≡ true) → (l : List A) → every g l ≡ true → every f l ≡ true
   every-weaken f g h [] p = every-none _

@@ -3,7 +3,7 @@ use mathlib.Core.Path.{_≡_, refl, ap, sym, _∙_}
 use mathlib.Core.Logic.{_≢_}
 use mathlib.Core.List.{List, [], _∷_}
 use mathlib.Core.Option.{Option, none, some, Option·map}
-use mathlib.Core.Bool.{Bool, true, false, cond, not, true≢false}
+use mathlib.Core.Bool.{Bool, true, false, not, true≢false}
 use lib.Dec.{eqb}
 use Rattle.types.specs.Numbers.{Shard, Id}
 use Rattle.types.specs.Places.{isSeatedOn}
@@ -13,27 +13,13 @@ use Rattle.rules.specs.Table.{Table, at}
 use Rattle.rules.specs.Board.{Settings, Boundary, Reshape, Board}
 use Rattle.rules.specs.Moves.{says, membersOf, place, quit, takeOff, forAll, pooledFrom, entrantsOn, abortRotations}
 use Rattle.rules.specs.Schedule.{seatedThere}
-use Rattle.rules.proofs.Counts.{Alike, same, apart, alike, eqb-same, eqb-apart}
+use Rattle.rules.proofs.Counts.{eqb-same}
 use Rattle.rules.proofs.KeptTables.{at-update, at-other, holds-same}
+use Rattle.rules.proofs.TakenOff.{keep-all, keep-keep, struck}
 use Rattle.rules.proofs.Turns.{forAll-keeps}
 use Rattle.tables.proofs.Bools.{and-end}
 
 -- ---- lists
-
-keep-keep : (f g h : Id → Bool) → ((y : Id) → h y ≡ (g y and f y)) → (l : List Id) → keep f (keep g l) ≡ keep h l
-unfolding keep _and_
-keep-keep f g h e [] = refl
-keep-keep f g h e (x ∷ l) = rw (e x) (go (g x) (f x) refl (keep-keep f g h e l))
-  where
-    go : (c d : Bool) → f x ≡ d → keep f (keep g l) ≡ keep h l → keep f (cond c (x ∷ keep g l) (keep g l)) ≡ cond (c and d) (x ∷ keep h l) (keep h l)
-    go true true u rest = rw u (ap (λ (m : List Id). x ∷ m) rest)
-    go true false u rest = rw u rest
-    go false d u rest = rest
-
-keep-all : (l : List Id) → keep (λ y. true) l ≡ l
-unfolding keep
-keep-all [] = refl
-keep-all (x ∷ l) = ap (λ (m : List Id). x ∷ m) (keep-all l)
 
 -- x is none of a list that begins with y
 none-head : (x y : Id) (l : List Id) → has x (y ∷ l) ≡ false → (x ≢ y) × (has x l ≡ false)
@@ -65,15 +51,9 @@ module _ (s : Shard) where
   -- ---- all of them
 
   all-members : (l : List Id) (b : Board) → membersOf s (forAll leaves l b) ≡ keep (λ y. not (has y l)) (membersOf s b)
-  unfolding forAll has any strike _or_ _and_
-  all-members [] b = sym (keep-all (membersOf s b))
-  all-members (x ∷ l) b =
-      all-members l (leaves x b) ∙ ap (keep (λ y. not (has y l))) (members-left x b)
-      ∙ keep-keep (λ y. not (has y l)) (λ y. not (eqb y x)) (λ y. not (has y (x ∷ l))) (λ y. go y (alike y x)) (membersOf s b)
-    where
-      go : (y : Id) → Alike y x → not (has y (x ∷ l)) ≡ (not (eqb y x) and not (has y l))
-      go y (same p q) = rw (p, eqb-same x)
-      go y (apart p q) = rw (q, eqb-apart x y (λ e. p (sym e)))
+  unfolding forAll has any
+  all-members [] b = sym (keep-all _ (λ y. refl) (membersOf s b))
+  all-members (x ∷ l) b = all-members l (leaves x b) ∙ ap (keep (λ y. not (has y l))) (members-left x b) ∙ struck x l (membersOf s b)
 
   all-says : (f : Place → Bool) (l : List Id) (b : Board) (y : Id) → has y l ≡ false → says f (forAll leaves l b) y ≡ says f b y
   unfolding forAll

@@ -1,6 +1,8 @@
 // Where the reading of bytes as a snapshot stops.
+use board::layout::LAST_EPOCH;
 use board::layout::MOST_BOUNDS;
 use board::layout::MOST_COMMITTEES;
+use board::layout::MOST_EPOCHS;
 use board::layout::MOST_MACHINES;
 use board::layout::MOST_RESHAPES;
 use board::layout::MOST_ROTATIONS;
@@ -26,10 +28,6 @@ pub enum Reading {
 }
 
 // ---- The settings
-
-const LAST_EPOCH: u64 = 4294967295;
-
-const MOST_EPOCHS: u64 = 1000000;
 
 fn setting_ok(i: usize, n: u64) -> bool
     requires { ⌜ i < 7 ⌝ }

@@ -4,10 +4,12 @@ use board::layout::BOUNDARY_WIDTH;
 use board::layout::BOUNDS_AT;
 use board::layout::COMMITTEE_WIDTH;
 use board::layout::COMMITTEES_AT;
+use board::layout::LAST_EPOCH;
 use board::layout::MACHINE_WIDTH;
 use board::layout::MACHINES_AT;
 use board::layout::MOST_BOUNDS;
 use board::layout::MOST_COMMITTEES;
+use board::layout::MOST_EPOCHS;
 use board::layout::MOST_MACHINES;
 use board::layout::MOST_RESHAPES;
 use board::layout::MOST_ROTATIONS;
@@ -30,10 +32,6 @@ ghost use Rattle.wellformed.specs.Tells.{Tells};
 ghost use Rattle.wellformed.specs.Check.{numbersOk, settingsOk, shardsOk, underwayOk};
 
 // ---- The ranges of rules/specs/Board.antt
-
-const LAST_EPOCH: u64 = 4294967295;
-
-const MOST_EPOCHS: u64 = 1000000;
 
 const MOST_IN_FLIGHT: u64 = 48;
 

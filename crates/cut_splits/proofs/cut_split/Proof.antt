@@ -8,12 +8,12 @@ use Rattle.rules.specs.Board.{split}
 use Rattle.rules.specs.Moves.{heightOf}
 use Rattle.rules.specs.Turns.{finished}
 use Rattle.rules.specs.Cut.{recast, fits}
-use Rattle.rules.proofs.KeptBoard.{good-of}
+use Rattle.rules.proofs.KeptBoard.{target-within, good-of, no-target}
 use Rattle.rules.proofs.KeptCut.{height-word}
 use Rattle.board.proofs.Keyed.{bounds-rise}
 use Rattle.recasting.proofs.Sizes.{found-stands, missing-stands}
 use Rattle.arriving.specs.Coming.{reshapeIn}
-use Rattle.arriving.proofs.Comes.{target-within, no-target, height-is}
+use Rattle.arriving.proofs.Comes.{height-is}
 use Rattle.cut_splits.specs.Settled.{cutBoard}
 use Rattle.cut_splits.proofs.Cuts.{nothing-due, no-boundary, no-record, no-room, cuts}
 use borrow.Author.Needs.{needs}
@@ -21,7 +21,7 @@ use Rattle.cut_splits.proofs.cut_split.Statement.{statement}
 use Rattle.cut_splits.proofs.cut_split.Tie as tie
 
 returns : tie.Need-returns
-returns c = ((omega arith, c .start .ensures), λ b h ok. nothing-due b ok _ (no-target b ok _ (sym (c .before .before .is-target .ensures) ∙ not-true _ (c .before .if1 .taken))) _ h _ (c .start .ensures))
+returns c = ((omega arith, c .start .ensures), λ b h ok. nothing-due b ok _ (no-target (good-of b ok) _ (sym (c .before .before .is-target .ensures) ∙ not-true _ (c .before .if1 .taken))) _ h _ (c .start .ensures))
 
 returns-2 : tie.Need-returns-2
 returns-2 c = ((omega arith, c .start2 .ensures), λ b h ok. nothing-due b ok _ (c .before .before .reshape-row .ensures b h ok .missing (c .before .if2 .taken)) _ h _ (c .start2 .ensures))

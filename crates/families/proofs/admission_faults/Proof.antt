@@ -1,6 +1,7 @@
 use mathlib.Core.Path.{sym, _∙_}
 use borrow.Author.Tests.{not-true, not-false}
-use Rattle.families.proofs.Refusing.{target-within, no-target, family-taken, committees-unfit, no-bound, granted}
+use Rattle.rules.proofs.KeptBoard.{target-within}
+use Rattle.families.proofs.Refusing.{no-target, family-taken, committees-unfit, no-bound, granted}
 use borrow.Author.Needs.{needs}
 use Rattle.families.proofs.admission_faults.Statement.{statement}
 use Rattle.families.proofs.admission_faults.Tie as tie

@@ -1,25 +1,25 @@
 use mathlib.Core.Path.{sym, _∙_}
 use native.Mathlib.Omega.{arith}
 use borrow.Author.Tests.{not-true, not-false}
+use Rattle.rules.proofs.KeptBoard.{target-within, good-of, no-target}
 use Rattle.drains.specs.Plans.{RowOf}
-use Rattle.drains.proofs.Drains.{no-target, target-small}
 use Rattle.halving.proofs.Gates.{gate-none, gate-open, gate-shut}
 use borrow.Author.Needs.{needs}
 use Rattle.halving.proofs.gated_row.Statement.{statement}
 use Rattle.halving.proofs.gated_row.Tie as tie
 
 returns : tie.Need-returns
-returns c = (λ l. absurd (omega arith), λ b h ok. gate-none _ _ b (no-target b ok _ (sym (c .before .is-target .ensures) ∙ not-true _ (c .if1 .taken))))
+returns c = (λ l. absurd (omega arith), λ b h ok. gate-none _ _ b (no-target (good-of b ok) _ (sym (c .before .is-target .ensures) ∙ not-true _ (c .if1 .taken))))
 
 returns-2 : tie.Need-returns-2
 returns-2 c = (λ l. absurd (omega arith), λ b h ok. gate-none _ _ b (c .before .reshape-row .ensures b h ok .missing (c .if2 .taken)))
 
 passes-gate-requires : tie.Need-passes-gate-requires
-passes-gate-requires c κs = (c .before .before .before .before .before .before .pre .0, c .if2 .left, target-small _ (sym (c .before .before .before .is-target .ensures) ∙ not-false _ (c .before .before .if1 .left)), c .before .before .before .before .before .before .pre .1)
+passes-gate-requires c κs = (c .before .before .before .before .before .before .pre .0, c .if2 .left, target-within _ (sym (c .before .before .before .is-target .ensures) ∙ not-false _ (c .before .before .if1 .left)), c .before .before .before .before .before .before .pre .1)
 
 returns-3 : tie.Need-returns-3
 returns-3 c = (
-  λ l. target-small _ (sym (c .before .before .before .before .before .is-target .ensures) ∙ not-false _ (c .before .before .before .before .if1 .left)),
+  λ l. target-within _ (sym (c .before .before .before .before .before .is-target .ensures) ∙ not-false _ (c .before .before .before .before .if1 .left)),
   λ b h ok.
       let f = c .before .before .before .reshape-row .ensures b h ok in
       let r : RowOf _ _ b = record { inside = f .inside (c .before .before .if2 .left); named = f .named (c .before .before .if2 .left) } in

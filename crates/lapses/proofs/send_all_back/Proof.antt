@@ -9,13 +9,14 @@ use Rattle.rules.specs.WellFormed.{wellFormed}
 use Rattle.board.specs.Held.{Holds}
 use Rattle.reshapes.specs.Changes.{seatEntry}
 use Rattle.reshapes.proofs.OfReshapes.{seats-room}
-use Rattle.lapses.proofs.Lapses.{seatsAt, Gone, none-gone, one-gone, all-gone}
+use Rattle.reshapes.proofs.SeatMoves.{seatsInRow}
+use Rattle.lapses.proofs.Lapses.{Gone, none-gone, one-gone, all-gone}
 use Rattle.lapses.proofs.send_all_back.Statement.{statement}
 use Rattle.lapses.proofs.send_all_back.Tie as tie
 
 abbrev Inv-loop : tie.InvT-loop
 Inv-loop board₀ target i n r₀ k₀ board r k = (k ≤ n) × (n ≤ mostSeats) × (r ≤ k) × (length board ≡ length board₀)
-    × ((b : Board) → Holds board₀ b → wellFormed b ≡ true → i < length (b .reshapes) → (n ≡ length (seatsAt i b)) × Gone (target .0) i b k r board)
+    × ((b : Board) → Holds board₀ b → wellFormed b ≡ true → i < length (b .reshapes) → (n ≡ length (seatsInRow i b)) × Gone (target .0) i b k r board)
 
 abbrev μ-loop : tie.MeasureT-loop
 μ-loop board₀ target i n r₀ k₀ board r k = n - k

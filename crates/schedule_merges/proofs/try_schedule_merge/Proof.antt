@@ -1,16 +1,17 @@
 use mathlib.Core.Path.{sym, _∙_}
 use native.Mathlib.Omega.{arith}
 use borrow.Author.Tests.{not-true, not-false}
+use Rattle.rules.proofs.KeptBoard.{target-within, good-of, no-target}
 use Rattle.drains.specs.declared.Plan.the-variants.{Stamp, Wait, Schedule, Unbounded}
 use Rattle.drains.specs.Plans.{RowOf}
-use Rattle.drains.proofs.Drains.{no-target, row-at, target-small}
+use Rattle.drains.proofs.Drains.{row-at}
 use Rattle.schedule_merges.proofs.Merges.{merge-none, merge-shut, merge-open, turn-told}
 use borrow.Author.Needs.{needs}
 use Rattle.schedule_merges.proofs.try_schedule_merge.Statement.{statement}
 use Rattle.schedule_merges.proofs.try_schedule_merge.Tie as tie
 
 returns : tie.Need-returns
-returns c = ((omega arith, omega (arith, c .before .before .start .ensures)), λ b h ok. turn-told _ (c .before .before .start .ensures) _ 0 _ b (merge-none _ _ b (no-target b ok _ (sym (c .before .is-target .ensures) ∙ not-true _ (c .if1 .taken)))) h)
+returns c = ((omega arith, omega (arith, c .before .before .start .ensures)), λ b h ok. turn-told _ (c .before .before .start .ensures) _ 0 _ b (merge-none _ _ b (no-target (good-of b ok) _ (sym (c .before .is-target .ensures) ∙ not-true _ (c .if1 .taken)))) h)
 
 returns-2 : tie.Need-returns-2
 returns-2 c = ((omega arith, omega (arith, c .before .before .before .before .before .start .ensures)), λ b h ok. turn-told _ (c .before .before .before .before .before .start .ensures) _ 0 _ b (merge-none _ _ b (c .before .reshape-row .ensures b h ok .missing (c .if2 .taken))) h)
@@ -25,10 +26,10 @@ returns-3 c = (
 )
 
 plan-at-requires : tie.Need-plan-at-requires
-plan-at-requires c κs = (c .before .before .before .before .before .before .before .before .before .before .before .pre, c .before .before .before .before .if2 .left, target-small _ (sym (c .before .before .before .before .before .before .before .before .is-target .ensures) ∙ not-false _ (c .before .before .before .before .before .before .before .if1 .left)))
+plan-at-requires c κs = (c .before .before .before .before .before .before .before .before .before .before .before .pre, c .before .before .before .before .if2 .left, target-within _ (sym (c .before .before .before .before .before .before .before .before .is-target .ensures) ∙ not-false _ (c .before .before .before .before .before .before .before .if1 .left)))
 
 schedule-requires : tie.Need-schedule-requires
-schedule-requires c κs = (c .before .before .before .before .before .before .before .before .before .before .before .before .before .before .before .pre, c .before .before .before .before .before .before .before .before .if2 .left, target-small _ (sym (c .before .before .before .before .before .before .before .before .before .before .before .before .is-target .ensures) ∙ not-false _ (c .before .before .before .before .before .before .before .before .before .before .before .if1 .left)))
+schedule-requires c κs = (c .before .before .before .before .before .before .before .before .before .before .before .before .before .before .before .pre, c .before .before .before .before .before .before .before .before .if2 .left, target-within _ (sym (c .before .before .before .before .before .before .before .before .before .before .before .before .is-target .ensures) ∙ not-false _ (c .before .before .before .before .before .before .before .before .before .before .before .if1 .left)))
 
 returns-4 : tie.Need-returns-4
 returns-4 c = (

@@ -2,7 +2,7 @@ use mathlib.Core.Path.{ap, sym, _∙_}
 use mathlib.Core.Bool.{false≢true}
 use borrow.Author.Tests.{not-true, not-false}
 use Rattle.rules.specs.WellFormed.{isTarget}
-use Rattle.families.proofs.Refusing.{target-within}
+use Rattle.rules.proofs.KeptBoard.{target-within}
 use Rattle.seats.proofs.Checked.{is-a-target, stands-is}
 use borrow.Author.Needs.{needs}
 use Rattle.seats.proofs.reshape_stands.Statement.{statement}

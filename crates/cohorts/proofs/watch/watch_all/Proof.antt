@@ -9,14 +9,14 @@ use Rattle.rules.specs.WellFormed.{goodIds, wellFormed}
 use Rattle.rules.specs.Moves.{mayJoin}
 use Rattle.rules.specs.Reshapes.{halfUp}
 use Rattle.board.specs.Held.{Holds, noReshape}
-use Rattle.lapses.proofs.Lapses.{seatsAt}
+use Rattle.reshapes.proofs.SeatMoves.{seatsInRow}
 use Rattle.cohorts.proofs.Watches.{Watched, none-watched, one-watched, all-watched}
 use Rattle.cohorts.proofs.watch.watch_all.Statement.{statement}
 use Rattle.cohorts.proofs.watch.watch_all.Tie as tie
 
 abbrev Inv-loop : tie.InvT-loop
 Inv-loop board₀ i target ids size half k₀ board k = (length board ≡ length board₀)
-    × ((b : Board) → Holds board₀ b → wellFormed b ≡ true → i < length (b .reshapes) → getD (b .reshapes) i noReshape .key ≡ target .0 → isEmpty (seatsAt i b) ≡ true
+    × ((b : Board) → Holds board₀ b → wellFormed b ≡ true → i < length (b .reshapes) → getD (b .reshapes) i noReshape .key ≡ target .0 → isEmpty (seatsInRow i b) ≡ true
     → goodIds mostSeats ids ≡ true → mayJoin (target .0) ids b ≡ true → (half ≡ halfUp (sizeOf b)) × Watched (target .0) i ids b k board)
 
 abbrev μ-loop : tie.MeasureT-loop

@@ -1,7 +1,7 @@
 use Rattle.reshapes.proofs.OfReshapes.{right-lent, right-room}
 use borrow.Author.Needs.{needs}
-use Rattle.carved.proofs.is_in_right.Statement.{statement}
-use Rattle.carved.proofs.is_in_right.Tie as tie
+use Rattle.reshapes.proofs.halves.is_in_right.Statement.{statement}
+use Rattle.reshapes.proofs.halves.is_in_right.Tie as tie
 
 returns : tie.Need-returns
 returns c = λ b h l. let i = c .before .before .before .args .i in c .contains .ensures _ (right-lent _ b h i l) (right-room _ b h i l)

@@ -1,7 +1,7 @@
 use Rattle.reshapes.proofs.OfReshapes.{left-lent, left-room}
 use borrow.Author.Needs.{needs}
-use Rattle.carved.proofs.is_in_left.Statement.{statement}
-use Rattle.carved.proofs.is_in_left.Tie as tie
+use Rattle.reshapes.proofs.halves.is_in_left.Statement.{statement}
+use Rattle.reshapes.proofs.halves.is_in_left.Tie as tie
 
 returns : tie.Need-returns
 returns c = λ b h l. let i = c .before .before .before .args .i in c .contains .ensures _ (left-lent _ b h i l) (left-room _ b h i l)
