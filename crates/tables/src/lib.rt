@@ -80,23 +80,25 @@ pub fn place_of(t: &[u64], w: usize, cap: usize, k: u64) -> usize
     lo
 }
 
-// The row of the key k, by halves; cap, past every row, where it has none.
+// The row of the key k, by halves of the n rows from lo on; cap, past every row, where it has none.
 pub fn row_of(t: &[u64], w: usize, cap: usize, k: u64) -> usize
     requires { ⌜ (length (now t) ≡ 1 + cap * w) × (cap < 4096) × (0 < w) × (w < 4096) ⌝ }
     ensures { λ r. ⌜ ((rs : List (Row w)) → now (t .entry) ≡ table wordsIn w cap rs → length rs ≤ cap → Rising keyIn rs → r ≡ rowOf keyIn cap k rs) ⌝ }
 {
     let mut lo: usize = 0;
-    let mut hi = rows_within(t, cap);
-    while lo < hi {
-        let mid = lo + (hi - lo) / 2;
+    let mut n = rows_within(t, cap);
+    while 0 < n {
+        let half = n / 2;
+        let mid = lo + half;
         let there = t[1 + mid * w];
         if there == k {
             return mid;
         }
         if there < k {
             lo = mid + 1;
+            n -= half + 1;
         } else {
-            hi = mid;
+            n = half;
         }
     }
     cap

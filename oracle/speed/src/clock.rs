@@ -3,8 +3,12 @@
 use std::hint::black_box;
 use std::time::Instant;
 
-/// How many calls a figure rests on.
-const CALLS: usize = 3_000;
+/// A figure is the middle one of so many rounds: where a board happens to lie
+/// in memory is worth some nanoseconds, and each round has memory of its own.
+const ROUNDS: usize = 5;
+
+/// How many calls a round has.
+const CALLS: usize = 600;
 
 /// One call after another on what `fresh` makes, in nanoseconds; the clock's
 /// own time is in it.
@@ -26,21 +30,26 @@ fn middle(mut times: Vec<f64>) -> f64 {
 }
 
 /// The time of `act`, without the clock's.
-pub fn time<T>(state: &mut T, fresh: impl FnMut(&mut T), act: impl FnMut(&mut T)) -> f64 {
+pub fn time<T: Clone>(state: &T, fresh: impl FnMut(&mut T), act: impl FnMut(&mut T)) -> f64 {
     over(state, fresh, act, |_| ())
 }
 
 /// By how much `act` takes longer than `part`, the two in turn.
-pub fn over<T>(
-    state: &mut T,
+pub fn over<T: Clone>(
+    state: &T,
     mut fresh: impl FnMut(&mut T),
     mut act: impl FnMut(&mut T),
     mut part: impl FnMut(&mut T),
 ) -> f64 {
-    let mut times = Vec::with_capacity(CALLS);
-    for _ in 0..CALLS {
-        let whole = sample(state, &mut fresh, &mut act);
-        times.push(whole - sample(state, &mut fresh, &mut part));
-    }
-    middle(times)
+    let mut states = vec![state.clone(); ROUNDS];
+    let mut round = |state: &mut T| {
+        let one = |_| {
+            let whole = sample(state, &mut fresh, &mut act);
+            whole - sample(state, &mut fresh, &mut part)
+        };
+        middle((0..CALLS).map(one).collect())
+    };
+    let mut figures: Vec<f64> = states.iter_mut().map(&mut round).collect();
+    figures.sort_by(f64::total_cmp);
+    figures[ROUNDS / 2]
 }

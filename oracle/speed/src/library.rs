@@ -26,6 +26,7 @@ pub fn words(board: &Board) -> Vec<u64> {
 }
 
 /// A snapshot, and room for its board and for the snapshot after.
+#[derive(Clone)]
 pub struct Room {
     snapshot: Vec<u8>,
     words: Vec<u64>,

@@ -68,7 +68,7 @@ fn print_step(at: &Situation) {
 fn in_place(at: &Situation) -> f64 {
     let template = library::words(&at.board);
     over(
-        &mut template.clone(),
+        &template,
         |words| words.copy_from_slice(&template),
         |words| {
             black_box(library::act(words, &at.call));
@@ -83,7 +83,7 @@ fn in_place(at: &Situation) -> f64 {
 fn in_maps(at: &Situation) -> f64 {
     let template = judge::to_state(&at.board);
     time(
-        &mut template.clone(),
+        &template,
         |state| {
             state.clone_from(&template);
             rand::lend(&at.call.draws);
@@ -93,13 +93,13 @@ fn in_maps(at: &Situation) -> f64 {
 }
 
 fn round(at: &Situation, act: fn(&mut Room, &Call)) -> f64 {
-    time(&mut Room::of(&at.board), |_| (), |room| act(room, &at.call))
+    time(&Room::of(&at.board), |_| (), |room| act(room, &at.call))
 }
 
 fn round_in_maps(at: &Situation) -> f64 {
     let bytes = bytes_of(&write(&at.board));
     time(
-        &mut Vec::new(),
+        &Vec::new(),
         |_| rand::lend(&at.call.draws),
         |out| round_once_in_maps(&bytes, at, out),
     )
@@ -122,8 +122,8 @@ fn print_checks() {
 }
 
 fn print_check(name: &str, board: &Board) {
-    let mut room = Room::of(board);
-    let mut timed = |act: fn(&mut Room)| time(&mut room, |_| (), act);
+    let room = Room::of(board);
+    let timed = |act: fn(&mut Room)| time(&room, |_| (), act);
     let (check, pass) = (timed(Room::check), timed(Room::pass));
     let (read, write) = (timed(Room::read), timed(Room::write));
     println!(
