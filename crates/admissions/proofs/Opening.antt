@@ -28,9 +28,6 @@ use Rattle.admissions.specs.Seated.{rowFor, opened, withSeatsAt}
 
 -- ---- one seat, at the place of its id
 
-pub place-within : (seats : Table Seat) (x : Id) (k : ℕ) → k ≡ placeOf keyOf x seats → k ≤ length seats
-place-within seats x k is = rw is (first-most _ seats)
-
 module _ (b : Board) (i : ℕ) (ws : List ℕ) (seats : Table Seat) (rise : Rising keyOf seats) (x : Id) (v : Seat) (k : ℕ) (is : k ≡ placeOf keyOf x seats) where
   made : at x seats ≡ none → Holds ws (withSeatsAt i (insertAt seats k (entry x v)) b) → Holds ws (withSeatsAt i (put x v seats) b)
   made n h = rw (put-is-insertAt seats rise x v n, ← is) h

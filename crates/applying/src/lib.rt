@@ -20,7 +20,7 @@ ghost use Rattle.applying.specs.Asked.{callOf};
 ghost use Rattle.applying.specs.Applied.{mostBytes, StepTold, Applied};
 
 // The most bytes that a snapshot has.
-const MOST_BYTES: usize = 46816;
+pub const MOST_BYTES: usize = 46816;
 
 // The answer to a number that is no step's.
 const NO_SUCH_STEP: u64 = 15;

@@ -1,7 +1,7 @@
 -- Every row of a section is as wide as its name says.
 use Prim.Native.Nat.{suc}
 use mathlib.Core.Path.{_≡_, refl, ap}
-use mathlib.Core.List.{List}
+use mathlib.Core.List.{List, _++_}
 use native.Mathlib.Omega.{arith}
 use lib.ListN.{length, length-append}
 use Rattle.types.specs.Numbers.{Id}
@@ -10,8 +10,9 @@ use Rattle.types.specs.declared.Place.the-variants.{Pooled, Seated, Observing, 
 use Rattle.rules.specs.Table.{Entry}
 use Rattle.rules.specs.Board.{Settings, Boundary, Rotation, Seat, Reshape, Board, mostMachines, mostCommittees, mostMembers, mostBounds, mostRotations, mostReshapes, mostSeats, mostHalf}
 use Rattle.rules.specs.Snapshot.{settingsWords, placeWords, machineWords, boundaryWords, rotationWords, seatWords, reshapeWords, idWords}
+use Rattle.tables.specs.Rows.{idTable}
 use Rattle.tables.proofs.Tables.{length-pad, table-length}
-use Rattle.board.specs.Layout.{machineWidth, committeeWidth, boundaryWidth, rotationWidth, seatWidth, seatsAt, reshapeWidth, machinesAt, boardSize, committeeRow, reshapeHead, reshapeRow, settingsTable, encode}
+use Rattle.board.specs.Layout.{machineWidth, committeeWidth, boundaryWidth, rotationWidth, seatWidth, seatsAt, reshapeWidth, machinesAt, boardSize, committeeRow, seatTable, reshapeHead, reshapeRow, settingsTable, encode}
 
 place-wide : (p : Place) → length (placeWords p) ≡ 4
 unfolding placeWords
@@ -48,6 +49,10 @@ seat-wide e = refl
 pub head-wide : (e : Entry Reshape) → length (reshapeHead e) ≡ seatsAt
 unfolding reshapeHead reshapeWords
 head-wide e = refl
+
+pub reshape-parts : (e : Entry Reshape) → reshapeRow e ≡ reshapeHead e ++ (seatTable (e .val .seats) ++ (idTable mostHalf (e .val .left) ++ idTable mostHalf (e .val .right)))
+unfolding reshapeRow
+reshape-parts e = refl
 
 pub reshape-wide : (e : Entry Reshape) → length (reshapeRow e) ≡ reshapeWidth
 unfolding reshapeRow

@@ -8,11 +8,7 @@ use native.Mathlib.Numerals.{add-one}
 use lib.ListN.{length, getD, set, take, drop, length-append, length-drop, take-append-drop}
 use lib.Seq.{drop-cons, drop-drop, length-take-le, set-at, take-add}
 use Rattle.rules.specs.Snapshot.{digits, valueOfBytes}
-
-pub digits-length : (k n : ℕ) → length (digits k n) ≡ k
-unfolding digits
-digits-length zero n = refl
-digits-length (suc k) n = ap suc (digits-length k (n / 256))
+use Rattle.rules.proofs.SnapshotBytes.{digits-length}
 
 -- what is left of a word after k digits
 unfoldable pub after : ℕ → ℕ → ℕ

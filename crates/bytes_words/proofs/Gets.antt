@@ -9,7 +9,7 @@ use lib.Seq.{drop-cons, drop-drop, set-at, append-snoc}
 use mathlib.Core.List.{append-nil}
 use Rattle.rules.specs.Snapshot.{valueOfBytes, readWords}
 
-reads-length : (n : ℕ) (l : List ℕ) → length (readWords n l) ≡ n
+pub reads-length : (n : ℕ) (l : List ℕ) → length (readWords n l) ≡ n
 unfolding readWords
 reads-length zero l = refl
 reads-length (suc n) l = ap suc (reads-length n (drop 8 l))

@@ -14,7 +14,7 @@ use Rattle.rules.specs.Moves.{isOn, isKind}
 use Rattle.rules.specs.Places.{isScheduledSplit}
 use Rattle.rules.specs.SeatCheck.{isInOneHalf}
 use Rattle.tables.proofs.Bools.{and-is}
-use Rattle.occupancy.proofs.Occupied.{split-unless}
+use Rattle.moves.proofs.Exiting.{split-unless}
 use Rattle.carved.specs.Rows.{splitFits}
 
 -- ---- rotations: none passes the test

@@ -39,7 +39,7 @@ use Rattle.board.proofs.Keyed.{committees-rise, reshapes-rise}
 use Rattle.board.proofs.Moves.{members-at, members-none}
 use Rattle.pool.proofs.Pools.{keys-here, keys-past}
 use Rattle.steps.specs.Inner.{outcome, Step}
-use Rattle.lapses.proofs.Lapses.{splits-unless}
+use Rattle.moves.proofs.Exiting.{split-unless}
 use Rattle.cohorts.specs.Awaiting.{Awaiting}
 
 -- ---- the pool, as a loop gathers it
@@ -83,15 +83,15 @@ module _ (b : Board) (draws ids left : List ℕ) (s : shuffle (poolOf b) draws �
 module _ (r : Reshape) where
   pub merge-awaits : isKind merge r ≡ true → false ≡ awaitsCohort r
   unfolding awaitsCohort _and_
-  merge-awaits m = rw (splits-unless r true m)
+  merge-awaits m = rw (split-unless r true m)
 
   pub scheduled-awaits : isKind merge r ≡ false → isSome (r .terminal) ≡ true → false ≡ awaitsCohort r
   unfolding awaitsCohort _and_
-  scheduled-awaits m s = rw (splits-unless r false m, s)
+  scheduled-awaits m s = rw (split-unless r false m, s)
 
   pub empty-awaits : isKind merge r ≡ false → isSome (r .terminal) ≡ false → (n : ℕ) → n ≡ length (r .seats) → eqb n 0 ≡ awaitsCohort r
   unfolding awaitsCohort isEmpty _and_
-  empty-awaits m s n e = rw (splits-unless r false m, s, e) (go (r .seats))
+  empty-awaits m s n e = rw (split-unless r false m, s, e) (go (r .seats))
     where
       go : (l : Table Seat) → eqb (length l) 0 ≡ isEmpty l
       go [] = refl

@@ -7,7 +7,7 @@ use mathlib.Core.Bool.{Bool, true, false, cond, false≢true}
 use native.Mathlib.Omega.{arith}
 use native.Mathlib.Numerals.{add-one}
 use borrow.Author.Tests.{lt-ltb, ltb-true, ltb-false}
-use lib.Dec.{eqb, leb, ltb}
+use lib.Dec.{eqb, ltb}
 use lib.ListN.{length, getD, set, take, drop, drop-of-length-le, length-set}
 use lib.Seq.{drop-cons, getD-set-same}
 use Rattle.types.specs.Numbers.{Shard, Id}
@@ -52,9 +52,6 @@ module _ (after : List ℕ) (b : Board) (t x : ℕ) where
   watched c i named h = rw named at h
 
 -- a seat for one that has none
-pub place-within : (x : ℕ) (t : Table Seat) (k : ℕ) → k ≡ placeOf keyOf x t → k ≤ length t
-place-within x t k e = omega (arith, e, first-most (λ (d : Entry Seat). leb x (d .key)) t)
-
 pub seat-made : (after : List ℕ) (b : Board) (i k x c : ℕ) → Rising keyOf (b .reshapes) → i < length (b .reshapes) → Rising keyOf (seatsInRow i b) → at x (seatsInRow i b) ≡ none → k ≡ placeOf keyOf x (seatsInRow i b)
     → Holds after (onReshapes (changeAt noReshape i (withSeats (λ t. insertAt t k (entry x (newSeat c))))) b)
     → Holds after (onReshapes (update (getD (b .reshapes) i noReshape .key) (withSeats (put x (newSeat c)))) b)

@@ -26,7 +26,7 @@ use Rattle.board.specs.Held.{noReshape}
 use Rattle.board.proofs.Keyed.{reshapes-rise}
 use Rattle.reshapes.specs.Changes.{seatEntry, kindOf}
 use Rattle.reshapes.specs.declared.seats.Seat.{Seat}
-use Rattle.moves.proofs.Exiting.{kind-split, kind-told}
+use Rattle.moves.proofs.Exiting.{split-unless, kind-told}
 use Rattle.drains.specs.declared.Whose.{Whose}
 use Rattle.drains.specs.declared.Whose.the-variants.{All, Of}
 use Rattle.drains.specs.declared.Plan.{Plan}
@@ -53,7 +53,7 @@ module _ (r : Reshape) (m : Bool) (e : m ≡ isKind merge r) where
   reads-merge t = kind-is merge r (sym e ∙ t)
 
   pub reads-split : m ≡ false → r .kind ≡ split
-  reads-split t = kind-is split r (sym (kind-split false r refl) ∙ rw (sym e ∙ t))
+  reads-split t = kind-is split r (split-unless r false (sym e ∙ t))
 
 -- ---- quiet
 

@@ -4,7 +4,7 @@ use mathlib.Core.Path.{_≡_, refl, ap, sym, _∙_}
 use mathlib.Core.Logic.{inl, inr}
 use mathlib.Core.List.{List, [], _∷_}
 use mathlib.Core.Option.{Option}
-use mathlib.Core.Bool.{Bool, true, false, cond, not}
+use mathlib.Core.Bool.{Bool, true, false, cond}
 use native.Mathlib.Omega.{arith}
 use types.Run.{OneOf}
 use denote.Enum.Declared.{tagOf}
@@ -30,7 +30,7 @@ use Rattle.tables.proofs.Keys.{at-is, drop-is-removeAt}
 use Rattle.board.specs.Held.{Holds, noMachine, noReshape}
 use Rattle.board.proofs.Keyed.{machines-rise, reshapes-rise}
 use Rattle.rows.specs.Found.{Found}
-use Rattle.moves.proofs.Exiting.{kind-split}
+use Rattle.moves.proofs.Exiting.{split-unless}
 use Rattle.joining.proofs.Struck.{pool-stands}
 
 -- ---- whether a scheduled split stands there, asked at the row that was found
@@ -50,11 +50,11 @@ module _ (s : Shard) (b : Board) (ok : wellFormed b ≡ true) (i : ℕ) (f : Fou
 
     pub merge-there : isKind merge here ≡ true → false ≡ isCarved s b
     unfolding _and_
-    merge-there e = sym (asked ∙ rw (sym (kind-split false here refl) ∙ ap not e))
+    merge-there e = sym (asked ∙ rw (split-unless here true e))
 
     pub split-there : isKind merge here ≡ false → isSome (here .terminal) ≡ isCarved s b
     unfolding _and_
-    split-there e = sym (asked ∙ rw (sym (kind-split false here refl) ∙ ap not e))
+    split-there e = sym (asked ∙ rw (split-unless here false e))
 
 -- ---- whether it is a party, asked by the first rotation that it is a party of
 

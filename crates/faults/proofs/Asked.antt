@@ -12,7 +12,7 @@ use Rattle.rules.specs.Moves.{says, isOn, isKind}
 use Rattle.rules.specs.Places.{isScheduledSplit}
 use Rattle.rules.specs.SeatCheck.{isInOneHalf}
 use Rattle.tables.proofs.Bools.{and-is}
-use Rattle.occupancy.proofs.Occupied.{split-unless}
+use Rattle.moves.proofs.Exiting.{split-unless}
 use Rattle.parties.specs.Pairs.{shareParty}
 use Rattle.faults.specs.Firsts.{partiesSit, leavesAlone, isHalved}
 

@@ -38,7 +38,7 @@ use Rattle.pool.proofs.Pools.{keys-none, keys-here}
 use Rattle.rows.specs.Found.{Found}
 use Rattle.rows.proofs.Asked.{holds-none, says-at}
 use Rattle.moves.specs.declared.Exit.the-variants.{FromWatch}
-use Rattle.moves.proofs.Exiting.{kind-split, no-record, record-placed}
+use Rattle.moves.proofs.Exiting.{split-unless, no-record, record-placed}
 use Rattle.moves.proofs.Kept.{placed-well}
 use Rattle.steps.specs.Inner.{outcome, Step}
 
@@ -208,10 +208,6 @@ module _ (t : Shard) (i : ℕ) (b : Board) (ok : wellFormed b ≡ true) (l : i <
 
 -- ---- each way out
 
--- a reshape is a split or a merge
-pub splits-unless : (r : Reshape) (m : Bool) → isKind merge r ≡ m → isKind split r ≡ not m
-splits-unless r m e = sym (kind-split false r refl) ∙ ap not e
-
 module _ (b : Board) (ok : wellFormed b ≡ true) (after : List ℕ) (r : Outcome) (t : Shard) where
   pub no-target : isTarget t ≡ false → Holds after b → r ≡ outcome OutOfRange 0 0 → Step (lapse t) b after r
   unfolding lapse alone checked
@@ -230,7 +226,7 @@ module _ (b : Board) (ok : wellFormed b ≡ true) (after : List ℕ) (r : Outcom
       there = at-is (b .reshapes) (reshapes-rise b ok) t i noReshape here named
 
       splits : (m : Bool) → isKind merge (getD (b .reshapes) i noReshape .val) ≡ m → reshapeAt split t b ≡ not m
-      splits m e = holds-at t (isKind split) (b .reshapes) _ there ∙ splits-unless _ m e
+      splits m e = holds-at t (isKind split) (b .reshapes) _ there ∙ split-unless _ m e
 
       pub a-merge : isKind merge (getD (b .reshapes) i noReshape .val) ≡ true → Holds after b → r ≡ outcome NotThere 0 0 → Step (lapse t) b after r
       a-merge m h e = not-there (splits true m) h e

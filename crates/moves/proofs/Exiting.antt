@@ -1,6 +1,6 @@
 -- The moves off a shard, by key, as the code has them at the row that it found.
 use Prim.Native.Nat.{ℕ, _≤_, _<_}
-use mathlib.Core.Path.{_≡_, refl, sym}
+use mathlib.Core.Path.{_≡_, refl, ap, sym, _∙_}
 use mathlib.Core.List.{List}
 use mathlib.Core.Bool.{Bool, true, false, not}
 use lib.ListN.{getD, set}
@@ -33,6 +33,9 @@ kind-split merging r e = rw e (go (r .kind))
     go : (k : Kind) → not (elim k [ split ↦ false | merge ↦ true ]) ≡ elim k [ split ↦ true | merge ↦ false ]
     go split = refl
     go merge = refl
+
+pub split-unless : (r : Reshape) (m : Bool) → isKind merge r ≡ m → isKind split r ≡ not m
+split-unless r m e = sym (kind-split false r refl) ∙ ap not e
 
 pub kind-told : (r : Reshape) (merging : Bool) → merging ≡ isKind merge r → kindOf merging ≡ r .kind
 unfolding isKind

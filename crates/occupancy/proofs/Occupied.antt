@@ -1,7 +1,7 @@
 -- What a committee, a machine and a cohort are asked, as the code has it at a row.
 use Prim.Native.Nat.{ℕ, _≤_, _<_}
-use mathlib.Core.Path.{_≡_, refl, ap, sym, _∙_}
-use mathlib.Core.Bool.{Bool, true, false, not, _||_}
+use mathlib.Core.Path.{_≡_, refl, sym, _∙_}
+use mathlib.Core.Bool.{Bool, true, false, _||_}
 use lib.ListN.{getD}
 use Rattle.types.specs.Numbers.{Shard, Id}
 use Rattle.types.specs.Places.{isSeatedOn, observes}
@@ -22,7 +22,7 @@ use Rattle.board.specs.Held.{noCommittee, noReshape}
 use Rattle.board.proofs.Keyed.{committees-rise, reshapes-rise}
 use Rattle.rows.specs.Found.{Found}
 use Rattle.rows.proofs.Asked.{holds-none}
-use Rattle.moves.proofs.Exiting.{kind-split}
+use Rattle.moves.proofs.Exiting.{split-unless}
 use Rattle.occupancy.specs.Rows.{isHere, cohortWatches}
 
 -- ---- a place that was looked up by id
@@ -47,9 +47,6 @@ module _ (s : Shard) (b : Board) (ok : wellFormed b ≡ true) (j : ℕ) (f : Fou
   members-there l = rw (membersOf, at-is (b .committees) (committees-rise b ok) s j noCommittee (f .inside l) (f .named l))
 
 -- ---- a seat, asked at the reshape's row
-
-pub split-unless : (r : Reshape) (m : Bool) → isKind merge r ≡ m → isKind split r ≡ not m
-split-unless r m e = sym (kind-split false r refl) ∙ ap not e
 
 module _ (s : Shard) (x : Id) (b : Board) (ok : wellFormed b ≡ true) (i : ℕ) (f : Found mostReshapes s noReshape (b .reshapes) i) where
   pub no-reshape : mostReshapes ≤ i → false ≡ hasCohortSeat s x b

@@ -6,12 +6,13 @@ use native.Mathlib.Omega.{arith}
 use lib.ListN.{length, take, drop, length-append, length-drop}
 use lib.Seq.{length-take-le, drop-drop}
 use Rattle.rules.specs.Board.{mostMembers, mostSeats, mostHalf}
+use Rattle.shifts.proofs.Parts.{between-length}
 use Rattle.board.specs.Layout.{membersAt, committeeWidth, seatWidth, seatsAt, leftAt, rightAt, reshapeWidth}
 use Rattle.packing.specs.declared.Nested.{Nested}
 use Rattle.packing.specs.declared.Nested.the-variants.{Committees, Reshapes}
 use Rattle.packing.specs.Packed.{between, countOf, widthOf, rowOf, rowsOf, nested}
 use Rattle.packing.specs.Put.{Put}
-use Rattle.packing.proofs.Sizes.{between-length, flat-within, flat-most, committee-length, reshape-length}
+use Rattle.packing.proofs.Sizes.{flat-within, flat-most, committee-length, reshape-length}
 use Rattle.packing.proofs.Lefts.{Left, start, room, next, last-room, done}
 use Rattle.packing.proofs.Puts.{nested-start}
 

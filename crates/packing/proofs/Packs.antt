@@ -1,34 +1,28 @@
 -- The packed words of a board that fits are its snapshot's words.
 use Prim.Native.Nat.{ℕ, suc, _+_, _-_, _*_, _≤_}
-use mathlib.Core.Path.{_≡_, refl, ap, sym, _∙_}
+use mathlib.Core.Path.{_≡_, refl, ap, _∙_}
 use mathlib.Core.List.{List, [], _∷_, _++_, append-assoc}
 use mathlib.Core.Bool.{Bool, true}
 use native.Mathlib.Omega.{arith}
 use native.Mathlib.Nat.{mul-le-mul-right, min-eq-left}
 use borrow.Author.Tests.{leb-true}
 use lib.ListN.{length, take, drop, replicate}
-use lib.Seq.{take-at, drop-at, take-all, drop-drop}
+use lib.Seq.{take-at, drop-at, take-all}
 use Rattle.types.specs.Numbers.{Id}
 use Rattle.rules.specs.Lists.{every}
 use Rattle.rules.specs.Table.{Entry}
 use Rattle.rules.specs.Board.{Settings, Reshape, Board, mostMachines, mostCommittees, mostMembers, mostBounds, mostRotations, mostReshapes, mostSeats, mostHalf}
 use Rattle.rules.specs.Snapshot.{rowsWords, section, idWords, settingsWords, machineWords, committeeWords, boundaryWords, rotationWords, seatWords, reshapeWords, wordsOf}
 use Rattle.rules.proofs.Tests.{all-parts, every-parts}
+use Rattle.shifts.proofs.Parts.{part-is, part-after}
 use Rattle.tables.specs.Rows.{pad, table, idTable}
 use Rattle.tables.proofs.Tables.{pad-is, rows-length, table-length}
 use Rattle.board.specs.Layout.{machineWidth, committeeWidth, boundaryWidth, rotationWidth, seatWidth, seatsAt, leftAt, rightAt, reshapeWidth, machinesAt, committeesAt, boundsAt, rotationsAt, reshapesAt, boardSize, committeeRow, seatTable, reshapeHead, reshapeRow, settingsTable, machineTable, committeeTable, boundaryTable, rotationTable, reshapeTable, encode}
 use Rattle.board.specs.Held.{roomyCommittee, roomyReshape, Fits}
-use Rattle.board.proofs.Widths.{machine-wide, id-wide, committee-wide, boundary-wide, rotation-wide, seat-wide, head-wide, reshape-wide, settings-wide}
+use Rattle.board.proofs.Widths.{machine-wide, id-wide, committee-wide, boundary-wide, rotation-wide, seat-wide, head-wide, reshape-parts, reshape-wide, settings-wide}
 use Rattle.packing.specs.declared.Nested.{Nested}
 use Rattle.packing.specs.declared.Nested.the-variants.{Committees, Reshapes}
 use Rattle.packing.specs.Packed.{between, countOf, flat, committee, reshape, widthOf, rowOf, rowsOf, nested, fromBounds, packed}
-
--- what follows a part that is known, and the part itself
-after : (a k e : ℕ) (t A B : List ℕ) → drop a t ≡ A ++ B → length A ≡ k → a + k ≡ e → drop e t ≡ B
-after a k e t A B p l s = ap (λ (n : ℕ). drop n t) (sym s) ∙ sym (drop-drop k a t) ∙ ap (drop k) p ∙ drop-at A B k l
-
-part : (a e : ℕ) (t A B : List ℕ) → drop a t ≡ A ++ B → length A ≡ e - a → between a e t ≡ A
-part a e t A B p l = ap (take (e - a)) p ∙ take-at A B (e - a) l
 
 part-last : (a e : ℕ) (t A : List ℕ) → drop a t ≡ A → length A ≡ e - a → between a e t ≡ A
 part-last a e t A p l = ap (take (e - a)) p ∙ take-all (e - a) A (omega arith)
@@ -73,10 +67,6 @@ committee-packs e h =
     let l : length (idTable mostMembers (e .val)) ≡ 97 = table-length idWords 1 mostMembers (e .val) in
     rw (part-last 1 98 (e .key ∷ idTable mostMembers (e .val)) (idTable mostMembers (e .val)) refl l, flat-packs idWords 1 id-wide mostMembers (e .val) (leb-true _ _ h))
 
-row-is : (e : Entry Reshape) → reshapeRow e ≡ reshapeHead e ++ (seatTable (e .val .seats) ++ (idTable mostHalf (e .val .left) ++ idTable mostHalf (e .val .right)))
-unfolding reshapeRow
-row-is e = refl
-
 head-is : (e : Entry Reshape) → reshapeHead e ++ (section seatWords (e .val .seats) ++ (section idWords (e .val .left) ++ section idWords (e .val .right))) ≡ reshapeWords e
 unfolding reshapeHead reshapeWords
 head-is e = refl
@@ -93,18 +83,18 @@ reshape-packs e h =
     let L = idTable mostHalf (e .val .left) in
     let R = idTable mostHalf (e .val .right) in
     let t = reshapeRow e in
-    let d0 : t ≡ H ++ (S ++ (L ++ R)) = row-is e in
+    let d0 : t ≡ H ++ (S ++ (L ++ R)) = reshape-parts e in
     let ls : length S ≡ leftAt - seatsAt = table-length seatWords seatWidth mostSeats (e .val .seats) in
     let ll : length L ≡ rightAt - leftAt = table-length idWords 1 mostHalf (e .val .left) in
     let lr : length R ≡ reshapeWidth - rightAt = table-length idWords 1 mostHalf (e .val .right) in
-    let ds : drop seatsAt t ≡ S ++ (L ++ R) = after 0 seatsAt seatsAt t H (S ++ (L ++ R)) d0 (head-wide e) refl in
-    let dl : drop leftAt t ≡ L ++ R = after seatsAt (leftAt - seatsAt) leftAt t S (L ++ R) ds ls refl in
-    let dr : drop rightAt t ≡ R = after leftAt (rightAt - leftAt) rightAt t L R dl ll refl in
+    let ds : drop seatsAt t ≡ S ++ (L ++ R) = part-after 0 seatsAt seatsAt t H (S ++ (L ++ R)) d0 (head-wide e) refl in
+    let dl : drop leftAt t ≡ L ++ R = part-after seatsAt (leftAt - seatsAt) leftAt t S (L ++ R) ds ls refl in
+    let dr : drop rightAt t ≡ R = part-after leftAt (rightAt - leftAt) rightAt t L R dl ll refl in
     let h0 : take seatsAt t ≡ H = ap (take seatsAt) d0 ∙ take-at H (S ++ (L ++ R)) seatsAt (head-wide e) in
     let hs : flat seatWidth mostSeats (between seatsAt leftAt t) ≡ section seatWords (e .val .seats) =
-    ap (flat seatWidth mostSeats) (part seatsAt leftAt t S (L ++ R) ds ls) ∙ flat-packs seatWords seatWidth seat-wide mostSeats (e .val .seats) (leb-true _ _ (q .0)) in
+    ap (flat seatWidth mostSeats) (part-is seatsAt leftAt t S (L ++ R) ds ls) ∙ flat-packs seatWords seatWidth seat-wide mostSeats (e .val .seats) (leb-true _ _ (q .0)) in
     let hl : flat 1 mostHalf (between leftAt rightAt t) ≡ section idWords (e .val .left) =
-    ap (flat 1 mostHalf) (part leftAt rightAt t L R dl ll) ∙ flat-packs idWords 1 id-wide mostHalf (e .val .left) (leb-true _ _ (q .1 .0)) in
+    ap (flat 1 mostHalf) (part-is leftAt rightAt t L R dl ll) ∙ flat-packs idWords 1 id-wide mostHalf (e .val .left) (leb-true _ _ (q .1 .0)) in
     let hr : flat 1 mostHalf (between rightAt reshapeWidth t) ≡ section idWords (e .val .right) =
     ap (flat 1 mostHalf) (part-last rightAt reshapeWidth t R dr lr) ∙ flat-packs idWords 1 id-wide mostHalf (e .val .right) (leb-true _ _ (q .1 .1 .0)) in
     four h0 hs hl hr ∙ head-is e
@@ -126,15 +116,15 @@ packed-encode b q =
     let lo : length O ≡ reshapesAt - rotationsAt = table-length rotationWords rotationWidth mostRotations (b .rotations) in
     let lr : length R ≡ boardSize - reshapesAt = table-length reshapeRow reshapeWidth mostReshapes (b .reshapes) in
     let dm : drop machinesAt t ≡ M ++ (C ++ (B ++ (O ++ R))) = drop-at S (M ++ (C ++ (B ++ (O ++ R)))) machinesAt (settings-wide (b .settings)) in
-    let dc : drop committeesAt t ≡ C ++ (B ++ (O ++ R)) = after machinesAt (committeesAt - machinesAt) committeesAt t M (C ++ (B ++ (O ++ R))) dm lm refl in
-    let db : drop boundsAt t ≡ B ++ (O ++ R) = after committeesAt (boundsAt - committeesAt) boundsAt t C (B ++ (O ++ R)) dc lc refl in
-    let dp : drop rotationsAt t ≡ O ++ R = after boundsAt (rotationsAt - boundsAt) rotationsAt t B (O ++ R) db lb refl in
-    let dr : drop reshapesAt t ≡ R = after rotationsAt (reshapesAt - rotationsAt) reshapesAt t O R dp lo refl in
+    let dc : drop committeesAt t ≡ C ++ (B ++ (O ++ R)) = part-after machinesAt (committeesAt - machinesAt) committeesAt t M (C ++ (B ++ (O ++ R))) dm lm refl in
+    let db : drop boundsAt t ≡ B ++ (O ++ R) = part-after committeesAt (boundsAt - committeesAt) boundsAt t C (B ++ (O ++ R)) dc lc refl in
+    let dp : drop rotationsAt t ≡ O ++ R = part-after boundsAt (rotationsAt - boundsAt) rotationsAt t B (O ++ R) db lb refl in
+    let dr : drop reshapesAt t ≡ R = part-after rotationsAt (reshapesAt - rotationsAt) reshapesAt t O R dp lo refl in
     six (settings-pack (b .settings) (M ++ (C ++ (B ++ (O ++ R)))))
-    (ap (flat machineWidth mostMachines) (part machinesAt committeesAt t M (C ++ (B ++ (O ++ R))) dm lm) ∙ flat-packs machineWords machineWidth machine-wide mostMachines (b .machines) (q .machines))
-    (ap (nested Committees mostCommittees) (part committeesAt boundsAt t C (B ++ (O ++ R)) dc lc) ∙ nested-packs Committees committeeRow committeeWords roomyCommittee committee-wide committee-packs mostCommittees (b .committees) (q .committees) (q .members))
-    (ap (flat boundaryWidth mostBounds) (part boundsAt rotationsAt t B (O ++ R) db lb) ∙ flat-packs boundaryWords boundaryWidth boundary-wide mostBounds (b .bounds) (q .bounds))
-    (ap (flat rotationWidth mostRotations) (part rotationsAt reshapesAt t O R dp lo) ∙ flat-packs rotationWords rotationWidth rotation-wide mostRotations (b .rotations) (q .rotations))
+    (ap (flat machineWidth mostMachines) (part-is machinesAt committeesAt t M (C ++ (B ++ (O ++ R))) dm lm) ∙ flat-packs machineWords machineWidth machine-wide mostMachines (b .machines) (q .machines))
+    (ap (nested Committees mostCommittees) (part-is committeesAt boundsAt t C (B ++ (O ++ R)) dc lc) ∙ nested-packs Committees committeeRow committeeWords roomyCommittee committee-wide committee-packs mostCommittees (b .committees) (q .committees) (q .members))
+    (ap (flat boundaryWidth mostBounds) (part-is boundsAt rotationsAt t B (O ++ R) db lb) ∙ flat-packs boundaryWords boundaryWidth boundary-wide mostBounds (b .bounds) (q .bounds))
+    (ap (flat rotationWidth mostRotations) (part-is rotationsAt reshapesAt t O R dp lo) ∙ flat-packs rotationWords rotationWidth rotation-wide mostRotations (b .rotations) (q .rotations))
     (ap (nested Reshapes mostReshapes) (part-last reshapesAt boardSize t R dr lr) ∙ nested-packs Reshapes reshapeRow reshapeWords roomyReshape reshape-wide reshape-packs mostReshapes (b .reshapes) (q .reshapes) (q .lists))
   where
     six : {a b c d e f u v w x y z : List ℕ} → a ≡ u → b ≡ v → c ≡ w → d ≡ x → e ≡ y → f ≡ z → a ++ (b ++ (c ++ (d ++ (e ++ f)))) ≡ u ++ (v ++ (w ++ (x ++ (y ++ z))))

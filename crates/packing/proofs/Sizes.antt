@@ -1,10 +1,10 @@
 -- How many words are packed.
-use Prim.Native.Nat.{ℕ, _+_, _-_, _*_, _≤_, _<_}
+use Prim.Native.Nat.{ℕ, _+_, _*_, _≤_, _<_}
 use mathlib.Core.Path.{_≡_, sym}
 use mathlib.Core.List.{List}
 use native.Mathlib.Omega.{arith}
 use native.Mathlib.Nat.{mul-le-mul-right, min-le-right, min-eq-left, min-eq-right}
-use lib.ListN.{length, getD, take, drop, length-append, length-drop}
+use lib.ListN.{length, getD, take, length-append}
 use lib.Seq.{length-take-le}
 use Rattle.rules.specs.Board.{mostMembers, mostSeats, mostHalf}
 use Rattle.board.specs.Layout.{membersAt, committeeWidth, seatWidth, seatsAt, leftAt, rightAt, reshapeWidth}
@@ -21,9 +21,6 @@ count-few cap t h = sym (min-eq-left h)
 pub count-most : (cap : ℕ) (t : List ℕ) → countOf cap t ≤ cap
 unfolding countOf
 count-most cap t = min-le-right (getD t 0 0) cap
-
-pub between-length : (a e : ℕ) (t : List ℕ) → e ≤ length t → length (between a e t) ≡ e - a
-between-length a e t h = length-take-le (e - a) (drop a t) (omega (arith, length-drop a t))
 
 module _ (w cap : ℕ) (t : List ℕ) (l : length t ≡ 1 + cap * w) where
   pub flat-within : 1 + countOf cap t * w ≤ length t

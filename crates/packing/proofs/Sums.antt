@@ -9,10 +9,11 @@ use mir.Syntax.{w64}
 use mir.Val.{Fits}
 use mir.Facts.{fits-le, fits-lit}
 use Rattle.rules.specs.Board.{mostMachines, mostCommittees, mostBounds, mostRotations, mostReshapes}
+use Rattle.shifts.proofs.Parts.{between-length}
 use Rattle.board.specs.Layout.{machineWidth, committeeWidth, boundaryWidth, rotationWidth, reshapeWidth, machinesAt, committeesAt, boundsAt, rotationsAt, reshapesAt, boardSize}
 use Rattle.packing.specs.declared.Nested.the-variants.{Committees, Reshapes}
 use Rattle.packing.specs.Packed.{between, flat, nested, fromBounds, packed}
-use Rattle.packing.proofs.Sizes.{between-length, flat-most}
+use Rattle.packing.proofs.Sizes.{flat-most}
 use Rattle.packing.proofs.Lefts.{Left, start}
 
 pub packed-start : (t out : List ℕ) → length (packed t) * 8 ≤ length out

@@ -1,5 +1,5 @@
 -- The moves on a reshape's lists, by key, as the leaves do them at a row.
-use Prim.Native.Nat.{ℕ, _<_}
+use Prim.Native.Nat.{ℕ, _≤_, _<_}
 use mathlib.Core.Path.{_≡_, refl, ap, _∙_}
 use mathlib.Core.List.{List, [], _++_}
 use mathlib.Core.Option.{none}
@@ -12,7 +12,7 @@ use Rattle.rules.specs.Board.{Kind, Seat, Reshape, Board, onReshapes, epochOf}
 use Rattle.rules.specs.Moves.{isKind, withSeats, withTerminal, giveUpSeat}
 use Rattle.rules.specs.Reshapes.{newReshape}
 use Rattle.tables.specs.Rows.{Rising, keyOf, placeOf, insertAt, removeAt}
-use Rattle.tables.proofs.Keys.{remove-none, remove-is-removeAt, put-is-insertAt}
+use Rattle.tables.proofs.Keys.{first-most, remove-none, remove-is-removeAt, put-is-insertAt}
 use Rattle.board.specs.Held.{noReshape, noSeat}
 use Rattle.board.specs.Leaves.{changeAt}
 use Rattle.board.proofs.Keyed.{update-is-change}
@@ -21,6 +21,10 @@ use Rattle.reshapes.specs.Changes.{withLeft, withRight, atTerminal, newl
 -- the seats of the reshape at a row
 abbrev pub seatsInRow : ℕ → Board → Table Seat
 seatsInRow i b = getD (b .reshapes) i noReshape .val .seats
+
+-- the place of an id is within them, or at their end
+pub place-within : (x : Id) (t : Table Seat) (k : ℕ) → k ≡ placeOf keyOf x t → k ≤ length t
+place-within x t k e = rw e (first-most _ t)
 
 -- a reshape just admitted has the seats that are taken one after another
 pub admitted-is-new : (k : Kind) (b : Board) → newReshape k [] b ≡ newlyAdmitted k (epochOf b)

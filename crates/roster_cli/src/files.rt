@@ -1,10 +1,9 @@
 // Snapshots in files.
 use crate::args;
 use crate::say;
+use applying::MOST_BYTES;
 
 pub const WORDS: usize = 5861;
-
-const MOST_BYTES: usize = 46816;
 
 // A descriptor; where there is none a mistake is told.
 pub(crate) fn open(path: &[u8]) -> i32 {

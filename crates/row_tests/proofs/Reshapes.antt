@@ -19,14 +19,14 @@ use Rattle.rules.specs.WellFormed.{keyBefore, goodTable, goodSeat, goodQuiet, m
 use Rattle.rules.specs.Snapshot.{flagOf, kindWord, seatWords, reshapeWords, isOne}
 use Rattle.rules.proofs.Tests.{and-parts, and-joins, or-cases, or-left, or-right, all-parts, all-joins}
 use Rattle.tables.specs.Rows.{idTable}
-use Rattle.shifts.proofs.Parts.{gets, gets-is, gets-all}
+use Rattle.shifts.proofs.Parts.{gets, gets-is, gets-all, between-length}
 use Rattle.board.specs.Layout.{seatWidth, seatsAt, leftAt, rightAt, reshapeWidth, seatTable, reshapeHead, reshapeRow}
 use Rattle.board.proofs.Widths.{seat-wide, reshape-wide}
 use Rattle.word_tests.specs.Tests.{at, between, allPass, anyPass, rises, idsOk}
 use Rattle.row_tests.specs.Rows.{seatOk, seatsOk, epochsOk, flagsOk, scheduledOk, halvesOk, reshapeOk}
 use Rattle.word_tests.proofs.Tests.{Some, pass-parts, pass-joins, any-cases, any-joins}
 use Rattle.word_tests.proofs.Decides.{Words, word-at, Held, Decides, ids-decides, table-decides}
-use Rattle.row_tests.proofs.Rows.{between-length, between-words, to-end, bit-back, bit-small, option-sound, option-complete}
+use Rattle.row_tests.proofs.Rows.{between-words, to-end, bit-back, bit-small, option-sound, option-complete}
 
 -- ---- seats
 

@@ -9,7 +9,7 @@ use native.Mathlib.Omega.{arith}
 use borrow.Author.Tests.{leb-true, eqb-true, eq-eqb, ne-eqb}
 use lib.Dec.{eqb, leb}
 use lib.ListN.{length, getD, drop, length-drop, drop-of-length-le}
-use lib.Seq.{drop-cons, length-take-le, take-all}
+use lib.Seq.{drop-cons, take-all}
 use Rattle.types.specs.Numbers.{Id, Epoch}
 use Rattle.types.specs.Places.{shardId, epochAt}
 use Rattle.types.specs.declared.Place.{Place}
@@ -21,7 +21,7 @@ use Rattle.rules.specs.WellFormed.{within, isStamp, goodOption, goodPlace, good
 use Rattle.rules.specs.Snapshot.{flagOf, valueOf, placeWords, machineWords, boundaryWords, rotationWords, isOne}
 use Rattle.rules.proofs.Tests.{and-parts, and-joins, all-parts, all-joins}
 use Rattle.tables.specs.Rows.{pad}
-use Rattle.shifts.proofs.Parts.{gets-is, gets-all}
+use Rattle.shifts.proofs.Parts.{gets-is, gets-all, between-length}
 use Rattle.board.specs.Layout.{machineWidth, membersAt, committeeWidth, boundaryWidth, rotationWidth, committeeRow}
 use Rattle.board.proofs.Widths.{machine-wide, committee-wide, boundary-wide, rotation-wide}
 use Rattle.word_tests.specs.Tests.{at, between, allPass, anyPass, idsOk}
@@ -30,9 +30,6 @@ use Rattle.word_tests.proofs.Tests.{Some, pass-parts, pass-joins, any-cases, an
 use Rattle.word_tests.proofs.Decides.{Words, words-cut, word-at, Held, Decides, heads, ids-decides}
 
 -- ---- parts of lists
-
-pub between-length : (a e : ℕ) (t : List ℕ) → e ≤ length t → length (between a e t) ≡ e - a
-between-length a e t h = length-take-le (e - a) (drop a t) (omega (arith, length-drop a t))
 
 pub between-words : (a e : ℕ) (t : List ℕ) → Words t → Words (between a e t)
 between-words a e t ws = words-cut (e - a) (drop a t) (words-cut a t ws .1) .0

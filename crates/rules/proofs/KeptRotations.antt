@@ -16,11 +16,11 @@ use Rattle.rules.proofs.Counts.{Alike, same, apart, alike}
 use Rattle.rules.proofs.Tests.{by-cases, and-parts, and-joins, or-cases, or-left, or-right, all-parts, all-joins, le-of, of-le, lt-of-no, eq-of, of-eq, every-parts, every-join, every-none, every-weaken}
 use Rattle.rules.proofs.KeptLists.{Part, end, kept, gone, part-all, part-keep, part-length, part-every}
 
-record Before (q r : Rotation) : Type 0 where
-  shard : q .shard ≤ r .shard
-  victim : r .shard ≤ q .shard → q .victim < r .victim
+pub record Before (q r : Rotation) : Type 0 where
+  pub shard : q .shard ≤ r .shard
+  pub victim : r .shard ≤ q .shard → q .victim < r .victim
 
-before-of : (q r : Rotation) → rotationBefore q r ≡ true → Before q r
+pub before-of : (q r : Rotation) → rotationBefore q r ≡ true → Before q r
 unfolding rotationBefore
 before-of q r h = go (or-cases _ _ h)
   where
@@ -36,7 +36,7 @@ of-before q r h = go (alike (q .shard) (r .shard))
     go (same p t) = or-right _ _ (and-joins _ _ t (of-le _ _ (h .victim (omega arith))))
     go (apart p t) = or-left _ _ (of-le (suc (q .shard)) (r .shard) (omega (arith, h .shard)))
 
-before-trans : (p q r : Rotation) → rotationBefore p q ≡ true → rotationBefore q r ≡ true → rotationBefore p r ≡ true
+pub before-trans : (p q r : Rotation) → rotationBefore p q ≡ true → rotationBefore q r ≡ true → rotationBefore p r ≡ true
 before-trans p q r a b =
     let u = before-of p q a in
     let v = before-of q r b in

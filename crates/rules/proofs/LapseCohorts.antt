@@ -28,13 +28,14 @@ use Rattle.rules.specs.Schedule as schedule
 use Rattle.rules.specs.Cut as cut
 use Rattle.rules.specs.Calls as calls
 use Rattle.rules.specs.Series.{next, isDone, drawnAfter}
-use Rattle.rules.proofs.Counts.{Alike, same, apart, alike, eqb-same, eqb-apart, hit-same, hit-apart, occ}
+use Rattle.rules.proofs.Counts.{Alike, same, apart, alike, eqb-same, eqb-apart, hit-same, occ}
 use Rattle.rules.proofs.Tables.{cond-const, at-put, at-remove, tally, occ-keysWhere}
 use Rattle.rules.proofs.Turns.{result, forAll-keeps, Finishes, checked-finishes, step-keeps, poolDraw-finishes}
 use Rattle.rules.proofs.Tests.{and-parts, or-cases, all-parts, of-not, given-if, le-of, lt-of-no, eq-of, of-eq, every-has, every-at, by-cases, of-no}
 use Rattle.rules.proofs.KeptTables.{at-keysWhere, at-holds, holds-at, at-update, at-other, holds-same}
 use Rattle.rules.proofs.KeptBoard.{Good, good-of}
 use Rattle.rules.proofs.Refusals.{Untouched, refusal-changes-nothing}
+use Rattle.rules.proofs.SeatsLaws.{any-in}
 use Rattle.rules.proofs.SeatsKept.{seatCheck-formed}
 use Rattle.rules.proofs.Batches.{any-drawn-finishes, scheduleSplits-keeps, scheduleMerges-keeps, cutSplits-keeps, cutMerges-keeps}
 
@@ -99,16 +100,6 @@ module _ (t : Shard) (ids : List Id) where
 
 -- ---- lists and tables of ids
 
-any-has : (f : ℕ → Bool) (l : List ℕ) (x : ℕ) → 1 ≤ occ x l → f x ≡ true → any f l ≡ true
-unfolding any occ _or_
-any-has f [] x o p = absurd (omega arith)
-any-has f (y ∷ l) x o p = go (alike x y) (f y) refl (any-has f l x)
-  where
-    go : Alike x y → (c : Bool) → f y ≡ c → (1 ≤ occ x l → f x ≡ true → any f l ≡ true) → any f (y ∷ l) ≡ true
-    go a true u ih = rw u
-    go (same e q) false u ih = absurd (true≢false (sym p ∙ rw e u))
-    go (apart e q) false u ih = rw u (ih (omega (arith, hit-apart x y e)) p)
-
 -- who is not in a list is not struck
 strike-absent : (x : ℕ) (l : List ℕ) → occ x l ≡ 0 → strike x l ≡ l
 unfolding strike keep occ
@@ -162,7 +153,7 @@ unfolding reshapes.familyFree overlaps any has _or_ keysOf tally
 taken t ids b g h free =
     let s = split-of t ids b h in
     let o : occ t (keysOf (b .reshapes)) ≡ 1 = occ-keysWhere (λ r. true) t 0 (b .reshapes) (g .reshapes .rising) ∙ rw (s .there) in
-    absurd (true≢false (sym (any-has (overlaps t) (keysOf (b .reshapes)) t (omega arith) (rw (eqb-same t))) ∙ of-not _ free))
+    absurd (true≢false (sym (any-in (overlaps t) (keysOf (b .reshapes)) t (omega arith) (rw (eqb-same t))) ∙ of-not _ free))
 
 -- ---- moves of a turn
 

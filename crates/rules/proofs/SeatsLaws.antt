@@ -88,7 +88,7 @@ pub of-out : (x : ℕ) (l : List ℕ) → occ x l ≡ 0 → has x l ≡ false
 of-out x l h = has-occ x l ∙ rw h
 
 -- some number of a list passes a test
-any-in : (f : ℕ → Bool) (l : List ℕ) (x : ℕ) → 1 ≤ occ x l → f x ≡ true → any f l ≡ true
+pub any-in : (f : ℕ → Bool) (l : List ℕ) (x : ℕ) → 1 ≤ occ x l → f x ≡ true → any f l ≡ true
 unfolding any occ
 any-in f [] x o h = absurd (omega arith)
 any-in f (y ∷ l) x o h = go (alike x y) (any-in f l x)

@@ -16,7 +16,7 @@ use Rattle.rules.proofs.Tests.{and-joins, every-parts, every-append}
 abbrev pub isByte : ℕ → Bool
 isByte n = ltb n 256
 
-digits-length : (k n : ℕ) → length (digits k n) ≡ k
+pub digits-length : (k n : ℕ) → length (digits k n) ≡ k
 unfolding digits
 digits-length zero n = refl
 digits-length (suc k) n = ap suc (digits-length k (n / 256))

@@ -1,11 +1,11 @@
 -- A part of a list: read where it stands, and put back as another.
-use Prim.Native.Nat.{ℕ, zero, suc, _+_, _≤_, _<_}
+use Prim.Native.Nat.{ℕ, zero, suc, _+_, _-_, _≤_, _<_}
 use mathlib.Core.Path.{_≡_, refl, ap, sym, _∙_}
 use mathlib.Core.List.{List, [], _∷_, _++_, append-assoc, append-nil}
 use native.Mathlib.Omega.{arith}
 use native.Mathlib.Nat.{zero-add}
-use lib.ListN.{length, getD, set, take, drop, length-append, drop-of-length-le, List·getD-append}
-use lib.Seq.{drop-cons, take-at, drop-at, getD-append-add, set-append-left, sets, sets-eq}
+use lib.ListN.{length, getD, set, take, drop, length-append, length-drop, drop-of-length-le, List·getD-append}
+use lib.Seq.{drop-cons, drop-drop, length-take-le, take-at, drop-at, getD-append-add, set-append-left, sets, sets-eq}
 use borrow.Rule.Slice.PartMut.{putMid}
 
 -- ---- words by their places
@@ -33,6 +33,16 @@ pub gets-take : (n : ℕ) (t : List ℕ) → n ≤ length t → gets 0 n t ≡ t
 gets-take n t h = sym (ap (take n) (gets-is n 0 t (omega arith)) ∙ take-at (gets 0 n t) (drop (0 + n) t) n (gets-length n 0 t))
 
 -- ---- a part
+
+-- the words from a to e: how many, what they are where that is known, and what follows them
+pub between-length : (a e : ℕ) (t : List ℕ) → e ≤ length t → length (take (e - a) (drop a t)) ≡ e - a
+between-length a e t h = length-take-le (e - a) (drop a t) (omega (arith, length-drop a t))
+
+pub part-is : (a e : ℕ) (t A B : List ℕ) → drop a t ≡ A ++ B → length A ≡ e - a → take (e - a) (drop a t) ≡ A
+part-is a e t A B p l = ap (take (e - a)) p ∙ take-at A B (e - a) l
+
+pub part-after : (a k e : ℕ) (t A B : List ℕ) → drop a t ≡ A ++ B → length A ≡ k → a + k ≡ e → drop e t ≡ B
+part-after a k e t A B p l s = ap (λ (n : ℕ). drop n t) (sym s) ∙ sym (drop-drop k a t) ∙ ap (drop k) p ∙ drop-at A B k l
 
 pub mid-read : (P F R l : List ℕ) (a k : ℕ) → l ≡ P ++ (F ++ R) → length P ≡ a → length F ≡ k → take k (drop a l) ≡ F
 mid-read P F R l a k e la lk = rw (e, drop-at P (F ++ R) a la) (take-at F R k lk)

@@ -3,22 +3,22 @@ use Prim.Native.Nat.{ℕ, zero, suc, _+_}
 use mathlib.Core.Path.{_≡_, refl, ap, sym, _∙_}
 use mathlib.Core.List.{List, [], _∷_, _++_, append-nil}
 use mathlib.Core.Logic.{_⊎_, inl, inr}
-use mathlib.Core.Option.{Option, none, some}
 use mathlib.Core.Bool.{Bool, true, false, cond, false≢true}
 use native.Mathlib.Omega.{arith}
 use lib.ListN.{length, take, drop, take-append-drop}
 use lib.Seq.{take-at, drop-drop}
-use Rattle.types.specs.Numbers.{Id, Epoch}
+use Rattle.types.specs.Numbers.{Id}
 use Rattle.types.specs.declared.Place.{Place}
 use Rattle.types.specs.declared.Place.the-variants.{Pooled, Seated, Observing, Short, Other}
 use Rattle.rules.specs.Lists.{_and_, _or_, allOf, every}
 use Rattle.rules.specs.Table.{Entry, entry}
 use Rattle.rules.specs.Board.{Board, Boundary, Reshape, mostMembers}
 use Rattle.rules.specs.WellFormed.{rising, goodList, goodSettings, goodCommittee, goodReshape, wellFormed}
-use Rattle.rules.specs.Snapshot.{rowsWords, section, flagOf, valueOf, settingsWords, placeWords, machineWords, committeeWords, boundaryWords, rotationWords, reshapeWords, wordsOf, word, readRows, readSection, optionOf, readSettings, placeOf, readMachine, readCommittee, readBoundary, readRotation, readBoard}
+use Rattle.rules.specs.Snapshot.{rowsWords, section, settingsWords, placeWords, machineWords, committeeWords, boundaryWords, rotationWords, reshapeWords, wordsOf, word, readRows, readSection, readSettings, placeOf, readMachine, readCommittee, readBoundary, readRotation, readBoard}
 use Rattle.rules.proofs.Tests.{and-parts, and-joins, or-cases, or-left, or-right, equal-refl, equal-true}
 use Rattle.rules.proofs.SnapshotEncodes.{ids-encode}
 use Rattle.rules.proofs.SnapshotRows.{board-encodes}
+use Rattle.board.proofs.One.{option-back}
 use Rattle.row_tests.specs.declared.RowKind.{RowKind}
 use Rattle.row_tests.specs.declared.RowKind.the-variants.{Machines, Committees, Boundaries, Rotations, Reshapes}
 use Rattle.word_tests.specs.Tests.{rises}
@@ -38,14 +38,9 @@ machine-read k (Observing s e) rest = refl
 machine-read k Short rest = refl
 machine-read k (Other m) rest = refl
 
-option-read : (o : Option Epoch) → optionOf (flagOf o) (valueOf o) ≡ o
-unfolding optionOf flagOf valueOf
-option-read none = refl
-option-read (some e) = refl
-
 boundary-read : (e : Entry Boundary) (rest : List ℕ) → readBoundary (boundaryWords e ++ rest) .0 ≡ e
 unfolding boundaryWords readBoundary word
-boundary-read e rest = rw (option-read (e .val .terminal), option-read (e .val .admitted))
+boundary-read e rest = rw (option-back (e .val .terminal), option-back (e .val .admitted))
 
 committee-read : (e : Entry (List Id)) (rest : List ℕ) → goodCommittee e ≡ true → readCommittee (committeeWords e ++ rest) .0 ≡ e
 unfolding goodCommittee committeeWords readCommittee word

@@ -1,12 +1,12 @@
 -- READING ENDS EXACTLY WHERE THE BYTES ARE A SNAPSHOT: the definition of where it stops tells the same as the first pass.
-use Prim.Native.Nat.{ℕ, zero, suc, _*_, _/_, _%_, _<_}
-use mathlib.Core.Path.{_≡_, refl, ap, sym, _∙_}
+use Prim.Native.Nat.{ℕ, _*_, _/_, _%_, _<_}
+use mathlib.Core.Path.{_≡_, refl, sym, _∙_}
 use mathlib.Core.List.{List, [], _∷_}
 use mathlib.Core.Bool.{Bool, true, false, _&&_}
 use native.Mathlib.Omega.{arith}
 use borrow.Author.Tests.{eqb-true, eqb-false, ne-eqb}
 use lib.Dec.{eqb}
-use lib.ListN.{length, getD, take, drop}
+use lib.ListN.{length, getD, take}
 use lib.Seq.{take-all, length-take-le}
 use Rattle.rules.specs.Board.{mostMachines, mostCommittees, mostBounds, mostRotations, mostReshapes}
 use Rattle.rules.specs.Lists.{_and_, _or_, equal}
@@ -14,6 +14,7 @@ use Rattle.rules.specs.WellFormed.{goodPlace, goodMachine}
 use Rattle.rules.specs.Snapshot.{placeWords, machineWords, word, placeOf, readMachine, readWords}
 use Rattle.row_tests.specs.declared.RowKind.the-variants.{Machines, Committees, Boundaries, Rotations, Reshapes}
 use Rattle.word_tests.specs.Tests.{allPass, anyPass}
+use Rattle.bytes_words.proofs.Gets.{reads-length}
 use Rattle.unpacking.specs.AsWords.{AsWords}
 use Rattle.reading.specs.Told.{TellsSnapshot}
 use Rattle.reading.proofs.Bytes.{bytes-as}
@@ -106,11 +107,6 @@ whole-ends n a (Ended b) e = go (eqb b n) refl e
     go false u e = absurd (let z : _≡_ {A = ℕ} 0 1 = cc in omega arith)
 whole-ends n a (Stopped b) e = absurd (let z : _≡_ {A = ℕ} 0 1 = cc in omega arith)
 
-read-length : (n : ℕ) (l : List ℕ) → length (readWords n l) ≡ n
-unfolding readWords
-read-length zero l = refl
-read-length (suc n) l = ap suc (read-length n (drop 8 l))
-
 -- the number of words, where the bytes are a snapshot
 pub reading-ends : (bs : List ℕ) (a : ℕ) → readingOf bs ≡ Ended a → a ≡ length bs / 8
 unfolding readingOf wholeWords wordsReading whole
@@ -119,7 +115,7 @@ reading-ends bs a e = go (eqb (length bs % 8) 0) e
     go : (c : Bool) → goOn (wordsReading (wholeWords bs)) (λ a. endedAt c a) ≡ Ended a → a ≡ length bs / 8
     go true e =
         let w = whole-ends (length (wholeWords bs)) a _ (sym (all-whole _) ∙ e) in
-        omega (arith, read-length (length (take (length bs / 8 * 8) bs) / 8) (take (length bs / 8 * 8) bs), length-take-le (length bs / 8 * 8) bs (omega arith))
+        omega (arith, reads-length (length (take (length bs / 8 * 8) bs) / 8) (take (length bs / 8 * 8) bs), length-take-le (length bs / 8 * 8) bs (omega arith))
     go false e = absurd (let s = some-left (wordsReading (wholeWords bs)) in let z : _≡_ {A = ℕ} 0 1 = cc in omega arith)
 
 -- a committee of 3, a board cut off after its machines, an empty board, one with a word too many, and a machine of place 9

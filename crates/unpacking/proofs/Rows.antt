@@ -8,15 +8,14 @@ use borrow.Author.Tests.{leb-true}
 use borrow.Rule.Slice.PartMut.{putMid}
 use lib.ListN.{length, take, drop, length-append, length-drop}
 use lib.Seq.{take-at, drop-at, take-all, drop-drop}
-use Rattle.rules.specs.Table.{Entry}
-use Rattle.rules.specs.Board.{Reshape, mostMembers, mostSeats, mostHalf}
+use Rattle.rules.specs.Board.{mostMembers, mostSeats, mostHalf}
 use Rattle.rules.specs.Snapshot.{idWords, seatWords, machineWords, committeeWords, boundaryWords, rotationWords, reshapeWords}
 use Rattle.rules.proofs.Tests.{all-parts}
 use Rattle.tables.specs.Rows.{idTable}
 use Rattle.tables.proofs.Tables.{table-length}
-use Rattle.board.specs.Layout.{committeeWidth, seatWidth, reshapeWidth, committeeRow, seatTable, reshapeHead, reshapeRow}
+use Rattle.board.specs.Layout.{committeeWidth, seatWidth, reshapeWidth, committeeRow, seatTable, reshapeHead}
 use Rattle.board.specs.Held.{roomyCommittee, roomyReshape}
-use Rattle.board.proofs.Widths.{machine-wide, id-wide, committee-wide, boundary-wide, rotation-wide, seat-wide, head-wide, reshape-wide}
+use Rattle.board.proofs.Widths.{machine-wide, id-wide, committee-wide, boundary-wide, rotation-wide, seat-wide, head-wide, reshape-parts, reshape-wide}
 use Rattle.row_tests.specs.declared.RowKind.{RowKind}
 use Rattle.row_tests.specs.declared.RowKind.the-variants.{Machines, Committees, Boundaries, Rotations, Reshapes}
 use Rattle.row_tests.specs.Rows.{widthOf}
@@ -59,10 +58,6 @@ reshape-is t l =
     rw (drop-drop 97 9 t, drop-drop 49 106 t)
     (ap (λ (u : List ℕ). take 9 t ++ (flat seatWidth mostSeats (take 97 (drop 9 t)) ++ (flat 1 mostHalf (take 49 (drop 106 t)) ++ flat 1 mostHalf u))) (take-all 49 (drop 155 t) (omega (arith, length-drop 155 t))))
 
-row-is : (e : Entry Reshape) → reshapeRow e ≡ reshapeHead e ++ (seatTable (e .val .seats) ++ (idTable mostHalf (e .val .left) ++ idTable mostHalf (e .val .right)))
-unfolding reshapeRow
-row-is e = refl
-
 reshape-good : (v : List ℕ) → GoodRow Reshapes v
     → (reshape v ≡ reshapeParts v)
     × (Wide 9 (take 9 v) × (Listed seatWidth mostSeats (take 97 (drop 9 v)) × (Listed 1 mostHalf (take 49 (drop 97 (drop 9 v))) × Listed 1 mostHalf (drop 49 (drop 97 (drop 9 v))))))
@@ -74,7 +69,7 @@ reshape-good v g =
     let S = seatTable (e .val .seats) in
     let L = idTable mostHalf (e .val .left) in
     let R = idTable mostHalf (e .val .right) in
-    let d0 : v ≡ H ++ (S ++ (L ++ R)) = g .words ∙ row-is e in
+    let d0 : v ≡ H ++ (S ++ (L ++ R)) = g .words ∙ reshape-parts e in
     let ls : length S ≡ 97 = table-length seatWords seatWidth mostSeats (e .val .seats) in
     let ll : length L ≡ 49 = table-length idWords 1 mostHalf (e .val .left) in
     let d9 : drop 9 v ≡ S ++ (L ++ R) = ap (drop 9) d0 ∙ drop-at H (S ++ (L ++ R)) 9 (head-wide e) in

@@ -5,12 +5,13 @@ use mathlib.Core.List.{List, _++_}
 use mathlib.Core.Bool.{Bool, true, false, or-false}
 use native.Mathlib.Omega.{arith}
 use borrow.Author.Tests.{eqb-true, eq-eqb}
-use lib.ListN.{length, take, drop}
-use lib.Seq.{take-at, drop-at, drop-drop}
+use lib.ListN.{length, drop}
+use lib.Seq.{drop-at}
 use Rattle.rules.specs.Board.{Board, mostMachines, mostCommittees, mostBounds, mostRotations, mostReshapes}
 use Rattle.rules.specs.WellFormed.{keyBefore, goodTable, goodList, goodMachine, goodCommittee, goodBoundary, goodRotation, goodReshape, rotationBefore, wellFormed}
 use Rattle.rules.specs.Snapshot.{machineWords, boundaryWords, rotationWords, reshapeWords}
 use Rattle.rules.proofs.Tests.{all-parts, all-joins}
+use Rattle.shifts.proofs.Parts.{between-length, part-is, part-after}
 use Rattle.board.specs.Layout.{machineWidth, committeeWidth, boundaryWidth, rotationWidth, reshapeWidth, machinesAt, committeesAt, boundsAt, rotationsAt, reshapesAt, boardSize, committeeRow, reshapeHead, reshapeRow, settingsTable, machineTable, committeeTable, boundaryTable, rotationTable, reshapeTable, encode}
 use Rattle.board.specs.Permitted.{WellHeld}
 use Rattle.board.proofs.Widths.{board-wide}
@@ -22,7 +23,7 @@ use Rattle.row_tests.specs.Rows.{machineOk, committeeOk, boundaryOk, rotationOk
 use Rattle.wellformed.specs.Check.{settingsOk, shardsOk, underwayOk, wellFormedWords}
 use Rattle.word_tests.proofs.Tests.{and-is, or-is, pass-parts, pass-joins}
 use Rattle.word_tests.proofs.Decides.{Words, Decides, table-decides}
-use Rattle.row_tests.proofs.Rows.{between-length, between-words, to-end, machine-decides, committee-decides, boundary-decides, rotation-decides}
+use Rattle.row_tests.proofs.Rows.{between-words, to-end, machine-decides, committee-decides, boundary-decides, rotation-decides}
 use Rattle.wellformed.proofs.Settings.{settings-decides}
 use Rattle.row_tests.proofs.Reshapes.{cut, join, reshape-decides}
 
@@ -79,13 +80,6 @@ board-sound t ws h =
       good = good;
     }
 
--- the words after a part, and the part after words
-after : (a k e : ℕ) (t A B : List ℕ) → drop a t ≡ A ++ B → length A ≡ k → a + k ≡ e → drop e t ≡ B
-after a k e t A B p l s = ap (λ (n : ℕ). drop n t) (sym s) ∙ sym (drop-drop k a t) ∙ ap (drop k) p ∙ drop-at A B k l
-
-part : (a e : ℕ) (t A B : List ℕ) → drop a t ≡ A ++ B → length A ≡ e - a → between a e t ≡ A
-part a e t A B p l = ap (take (e - a)) p ∙ take-at A B (e - a) l
-
 board-complete : (b : Board) → wellFormed b ≡ true → wellFormedWords (encode b) ≡ true
 unfolding wellFormedWords shardsOk underwayOk encode wellFormed
 board-complete b g =
@@ -104,23 +98,23 @@ board-complete b g =
     let lo : length O ≡ reshapesAt - rotationsAt = rotations-decide .wide (b .rotations) in
     let lt : length t ≡ boardSize = board-wide b in
     let dm : drop machinesAt t ≡ M ++ (C ++ (B ++ (O ++ R))) = drop-at S (M ++ (C ++ (B ++ (O ++ R)))) machinesAt ls in
-    let dc : drop committeesAt t ≡ C ++ (B ++ (O ++ R)) = after machinesAt (committeesAt - machinesAt) committeesAt t M (C ++ (B ++ (O ++ R))) dm lm refl in
-    let db : drop boundsAt t ≡ B ++ (O ++ R) = after committeesAt (boundsAt - committeesAt) boundsAt t C (B ++ (O ++ R)) dc lc refl in
-    let do' : drop rotationsAt t ≡ O ++ R = after boundsAt (rotationsAt - boundsAt) rotationsAt t B (O ++ R) db lb refl in
-    let dr : drop reshapesAt t ≡ R = after rotationsAt (reshapesAt - rotationsAt) reshapesAt t O R do' lo refl in
+    let dc : drop committeesAt t ≡ C ++ (B ++ (O ++ R)) = part-after machinesAt (committeesAt - machinesAt) committeesAt t M (C ++ (B ++ (O ++ R))) dm lm refl in
+    let db : drop boundsAt t ≡ B ++ (O ++ R) = part-after committeesAt (boundsAt - committeesAt) boundsAt t C (B ++ (O ++ R)) dc lc refl in
+    let do' : drop rotationsAt t ≡ O ++ R = part-after boundsAt (rotationsAt - boundsAt) rotationsAt t B (O ++ R) db lb refl in
+    let dr : drop reshapesAt t ≡ R = part-after rotationsAt (reshapesAt - rotationsAt) reshapesAt t O R do' lo refl in
     let shards : shardsOk t ≡ true = pass-joins _ (
-      ap (kindOk Committees mostCommittees) (part committeesAt boundsAt t C (B ++ (O ++ R)) dc lc) ∙ committees-decide .complete (b .committees) (p .1 .1 .0),
-      (ap (kindOk Boundaries mostBounds) (part boundsAt rotationsAt t B (O ++ R) db lb) ∙ bounds-decide .complete (b .bounds) (p .1 .1 .1 .0), tt),
+      ap (kindOk Committees mostCommittees) (part-is committeesAt boundsAt t C (B ++ (O ++ R)) dc lc) ∙ committees-decide .complete (b .committees) (p .1 .1 .0),
+      (ap (kindOk Boundaries mostBounds) (part-is boundsAt rotationsAt t B (O ++ R) db lb) ∙ bounds-decide .complete (b .bounds) (p .1 .1 .1 .0), tt),
     ) in
     let underway : underwayOk t ≡ true = pass-joins _ (
-      ap (kindOk Rotations mostRotations) (part rotationsAt reshapesAt t O R do' lo) ∙ rotations-decide .complete (b .rotations) (p .1 .1 .1 .1 .0),
+      ap (kindOk Rotations mostRotations) (part-is rotationsAt reshapesAt t O R do' lo) ∙ rotations-decide .complete (b .rotations) (p .1 .1 .1 .1 .0),
       (ap (kindOk Reshapes mostReshapes) (to-end reshapesAt boardSize t (omega arith) ∙ dr) ∙ reshapes-decide .complete (b .reshapes) (p .1 .1 .1 .1 .1 .0), tt),
     ) in
     pass-joins _ (
       eq-eqb _ _ lt,
       (
-        ap settingsOk (part 0 machinesAt t S (M ++ (C ++ (B ++ (O ++ R)))) refl ls) ∙ settings-decides .complete (b .settings) (p .0),
-        (ap (kindOk Machines mostMachines) (part machinesAt committeesAt t M (C ++ (B ++ (O ++ R))) dm lm) ∙ machines-decide .complete (b .machines) (p .1 .0), (shards, (underway, tt))),
+        ap settingsOk (part-is 0 machinesAt t S (M ++ (C ++ (B ++ (O ++ R)))) refl ls) ∙ settings-decides .complete (b .settings) (p .0),
+        (ap (kindOk Machines mostMachines) (part-is machinesAt committeesAt t M (C ++ (B ++ (O ++ R))) dm lm) ∙ machines-decide .complete (b .machines) (p .1 .0), (shards, (underway, tt))),
       ),
     )
 

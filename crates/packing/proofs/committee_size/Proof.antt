@@ -1,6 +1,7 @@
+use Rattle.shifts.proofs.Parts.{between-length}
 use Rattle.packing.specs.Packed.{between}
 use native.Mathlib.Omega.{arith}
-use Rattle.packing.proofs.Sizes.{between-length, flat-most, committee-length}
+use Rattle.packing.proofs.Sizes.{flat-most, committee-length}
 use borrow.Author.Needs.{needs}
 use Rattle.packing.proofs.committee_size.Statement.{statement}
 use Rattle.packing.proofs.committee_size.Tie as tie

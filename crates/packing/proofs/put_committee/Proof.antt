@@ -1,6 +1,6 @@
 use native.Mathlib.Omega.{arith}
 use lib.ListN.{take}
-use Rattle.packing.proofs.Sizes.{between-length}
+use Rattle.shifts.proofs.Parts.{between-length}
 use Rattle.packing.proofs.Lefts.{room, next, last-room, last}
 use Rattle.packing.proofs.Puts.{words-put, committee-start}
 use borrow.Author.Needs.{needs}

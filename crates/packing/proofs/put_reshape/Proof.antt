@@ -1,7 +1,7 @@
 use native.Mathlib.Omega.{arith}
 use lib.ListN.{take}
 use Rattle.packing.specs.Packed.{between, flat}
-use Rattle.packing.proofs.Sizes.{between-length}
+use Rattle.shifts.proofs.Parts.{between-length}
 use Rattle.packing.proofs.Lefts.{room, next, last-room, last}
 use Rattle.packing.proofs.Puts.{words-put, reshape-start}
 use borrow.Author.Needs.{needs}

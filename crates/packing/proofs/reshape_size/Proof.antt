@@ -1,6 +1,7 @@
 use native.Mathlib.Omega.{arith}
+use Rattle.shifts.proofs.Parts.{between-length}
 use Rattle.packing.specs.Packed.{between}
-use Rattle.packing.proofs.Sizes.{between-length, flat-most, reshape-length}
+use Rattle.packing.proofs.Sizes.{flat-most, reshape-length}
 use borrow.Author.Needs.{needs}
 use Rattle.packing.proofs.reshape_size.Statement.{statement}
 use Rattle.packing.proofs.reshape_size.Tie as tie

@@ -2,7 +2,8 @@ use mathlib.Core.Path.{ap, sym, _∙_}
 use native.Mathlib.Omega.{arith}
 use Rattle.rules.specs.Table.{Entry}
 use Rattle.rules.specs.Board.{Seat}
-use Rattle.admissions.proofs.Opening.{place-within, seat-at-end, seat-between, seat-again}
+use Rattle.reshapes.proofs.SeatMoves.{place-within}
+use Rattle.admissions.proofs.Opening.{seat-at-end, seat-between, seat-again}
 use borrow.Author.Needs.{needs}
 use Rattle.admissions.proofs.seating.put_seat.Statement.{statement}
 use Rattle.admissions.proofs.seating.put_seat.Tie as tie

@@ -1,7 +1,7 @@
 use native.Mathlib.Omega.{arith}
 use borrow.Author.Needs.{needs}
-use Rattle.reshapes.proofs.SeatMoves.{seatsInRow}
-use Rattle.cohorts.proofs.Watches.{place-within, seat-made}
+use Rattle.reshapes.proofs.SeatMoves.{seatsInRow, place-within}
+use Rattle.cohorts.proofs.Watches.{seat-made}
 use Rattle.cohorts.proofs.watch.open_seat.Statement.{statement}
 use Rattle.cohorts.proofs.watch.open_seat.Tie as tie
 
