@@ -5,7 +5,7 @@ use std::time::Instant;
 
 /// A figure is the middle one of so many rounds: where a board happens to lie
 /// in memory is worth some nanoseconds, and each round has memory of its own.
-const ROUNDS: usize = 5;
+const ROUNDS: usize = 9;
 
 /// How many calls a round has.
 const CALLS: usize = 600;
