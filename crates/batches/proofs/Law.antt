@@ -1,6 +1,6 @@
 -- One law for every step over several shards: a turn that finishes goes on, one that is refused ends the step, and so does the last.
 use Prim.Native.Nat.{ℕ, suc, _+_, _-_, _≤_, _<_}
-use mathlib.Core.Path.{_≡_, refl, ap, sym, _∙_}
+use mathlib.Core.Path.{_≡_, ap, _∙_}
 use mathlib.Core.List.{List, [], _∷_}
 use mathlib.Core.Bool.{true}
 use native.Mathlib.Omega.{arith}
@@ -11,12 +11,12 @@ use Rattle.types.specs.declared.Answer.{Answer}
 use Rattle.types.specs.declared.Answer.the-variants.{Done}
 use Rattle.rules.specs.Board.{Board}
 use Rattle.rules.specs.WellFormed.{wellFormed}
-use Rattle.rules.specs.Turns.{Result, Turn, finished, refused, inTurn, batch}
+use Rattle.rules.specs.Turns.{Turn, inTurn, batch}
 use Rattle.rules.proofs.Turns.{Finishes, in-turn-finished, in-turn-refused, batch-good}
 use Rattle.rules.proofs.Draws.{ReadsTurn}
 use Rattle.board.specs.Held.{Holds}
 use Rattle.sampling.specs.declared.Reader.{Reader}
-use Rattle.pool.specs.Told.{Finished, TellsTurn}
+use Rattle.pool.specs.Told.{TellsTurn}
 use Rattle.pool.specs.declared.Turned as turned
 use Rattle.steps.specs.Inner.{outcome, Step}
 use Rattle.batches.specs.Underway.{Underway}

@@ -9,7 +9,6 @@ use lib.ListN.{getD}
 use Rattle.types.specs.Numbers.{Shard, Id, Epoch}
 use Rattle.types.specs.declared.ShardId.{ShardId}
 use Rattle.types.specs.declared.Answer.the-variants.{NoBoundary}
-use Rattle.rules.specs.Lists.{_and_}
 use Rattle.rules.specs.Table.{Entry, isSome, at, update}
 use Rattle.rules.specs.Board as rules
 use Rattle.rules.specs.Board.{split, merge, Reshape, Board, onReshapes, sizeOf}

@@ -8,7 +8,6 @@ use Rattle.rules.specs.SeatCheck.{seatCheck}
 use Rattle.faults.specs.Clean.{Exactly, NoFault}
 use Rattle.faults.proofs.Cleared.{no-fault}
 use Rattle.fault_rows.specs.Clauses.{rowsOutside, rowsInside, firstOf, nextFault, NothingTold}
-use Rattle.fault_rows.specs.declared.Clause.{Clause}
 use Rattle.fault_rows.specs.declared.Clause.the-variants.{StrayMember, Unlisted, AbsentSeat, Unseated, SharedParty, SplitThere, Unhalved, Overlapping, Unfounded}
 
 module _ (b : Board) where

@@ -5,7 +5,7 @@ use lib.Dec.{eqb}
 use Rattle.types.specs.Numbers.{Shard, Id}
 use Rattle.types.specs.Places.{isSeatedOn, observes}
 use Rattle.types.specs.declared.Place.{Place}
-use Rattle.rules.specs.Lists.{_and_, _or_}
+use Rattle.rules.specs.Lists.{_or_}
 use Rattle.rules.specs.Table.{Entry, isSome}
 use Rattle.rules.specs.Board.{Rotation, split, merge, Reshape, Board}
 use Rattle.rules.specs.Moves.{says, isOn, isKind}

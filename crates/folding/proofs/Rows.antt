@@ -1,7 +1,7 @@
 -- Words written over others, and so a committee's row: past the members of both nothing has to be written.
 use Prim.Native.Nat.{ℕ, zero, suc, _+_, _-_, _*_, _≤_, _<_}
 use mathlib.Core.Path.{_≡_, refl, ap, sym, _∙_}
-use mathlib.Core.List.{List, [], _∷_, _++_, append-assoc}
+use mathlib.Core.List.{List, [], _++_, append-assoc}
 use mathlib.Core.Bool.{Bool, true, false}
 use native.Mathlib.Omega.{arith}
 use native.Mathlib.Numerals.{add-one}
@@ -12,7 +12,6 @@ use lib.Seq.{paste, paste-suc, length-paste-head, getD-append-add, getD-drop, ge
 use Rattle.types.specs.Numbers.{Id}
 use Rattle.rules.specs.Table.{Entry, entry, Table}
 use Rattle.rules.specs.Board.{Board, mostCommittees, mostMembers, onCommittees}
-use Rattle.tables.specs.Rows.{pad}
 use Rattle.tables.proofs.Tables.{pad-is}
 use Rattle.tables.proofs.Ids.{id-words}
 use Rattle.board.specs.Layout.{committeesAt, committeeWidth, membersAt, committeeRow, encode}

@@ -3,10 +3,10 @@ use Prim.Native.Nat.{ℕ, zero, suc, _≤_, _<_}
 use mathlib.Core.Path.{_≡_, refl, ap, sym, _∙_}
 use mathlib.Core.List.{List, [], _∷_}
 use mathlib.Core.Option.{none}
-use mathlib.Core.Bool.{Bool, true, false, cond}
+use mathlib.Core.Bool.{Bool, true, false}
 use native.Mathlib.Omega.{arith}
 use borrow.Author.Tests.{le-leb}
-use lib.Dec.{eqb, leb}
+use lib.Dec.{eqb}
 use lib.ListN.{length, getD}
 use Rattle.types.specs.Numbers.{Shard, Id, Height}
 use Rattle.types.specs.Shards.{leftOf, rightOf}
@@ -22,7 +22,6 @@ use Rattle.tables.specs.Rows.{insertAt, removeAt, firstWhere, placeOf, keyOf}
 use Rattle.tables.proofs.Keys.{remove-none, remove-is-removeAt, put-is-insertAt, place-under}
 use Rattle.board.specs.Held.{Holds, noCommittee}
 use Rattle.board.proofs.Fitting.{held-as}
-use Rattle.board.proofs.Keyed.{committees-rise}
 use Rattle.rows.specs.Found.{Found}
 use Rattle.recasting.proofs.Families.{good-end, committees-fit, both-ended, parent-fits}
 

@@ -1,15 +1,15 @@
 -- Each kind of flat row decided, and the settings.
-use Prim.Native.Nat.{ℕ, zero, suc, _+_, _-_, _≤_, _<_}
+use Prim.Native.Nat.{ℕ, zero, suc, _-_, _≤_, _<_}
 use mathlib.Core.Path.{_≡_, refl, ap, sym, _∙_}
-use mathlib.Core.List.{List, [], _∷_, _++_, append-nil}
+use mathlib.Core.List.{List, [], _∷_}
 use mathlib.Core.Logic.{inl, inr}
 use mathlib.Core.Option.{Option, none, some}
 use mathlib.Core.Bool.{Bool, true, false, _&&_, or-false}
 use native.Mathlib.Omega.{arith}
 use borrow.Author.Tests.{leb-true, eqb-true, eq-eqb, ne-eqb}
 use lib.Dec.{eqb, leb}
-use lib.ListN.{length, getD, drop, length-drop, drop-of-length-le}
-use lib.Seq.{drop-cons, take-all}
+use lib.ListN.{length, getD, drop, length-drop}
+use lib.Seq.{take-all}
 use Rattle.types.specs.Numbers.{Id, Epoch}
 use Rattle.types.specs.Places.{shardId, epochAt}
 use Rattle.types.specs.declared.Place.{Place}
@@ -20,8 +20,7 @@ use Rattle.rules.specs.Board.{Boundary, Rotation, mostMembers}
 use Rattle.rules.specs.WellFormed.{within, isStamp, goodOption, goodPlace, goodMachine, goodCommittee, goodBoundary, goodRotation}
 use Rattle.rules.specs.Snapshot.{flagOf, valueOf, placeWords, machineWords, boundaryWords, rotationWords, isOne}
 use Rattle.rules.proofs.Tests.{and-parts, and-joins, all-parts, all-joins}
-use Rattle.tables.specs.Rows.{pad}
-use Rattle.shifts.proofs.Parts.{gets-is, gets-all, between-length}
+use Rattle.shifts.proofs.Parts.{gets-all, between-length}
 use Rattle.board.specs.Layout.{machineWidth, membersAt, committeeWidth, boundaryWidth, rotationWidth, committeeRow}
 use Rattle.board.proofs.Widths.{machine-wide, committee-wide, boundary-wide, rotation-wide}
 use Rattle.word_tests.specs.Tests.{at, between, allPass, anyPass, idsOk}

@@ -15,7 +15,7 @@ use Rattle.types.specs.declared.Answer.{Answer}
 use Rattle.types.specs.declared.Answer.the-variants.{Done, NotWellFormed, NoRecord, NoBoundary, DrawMissing}
 use Rattle.rules.specs.Lists.{_or_, any, has}
 use Rattle.rules.specs.Table.{at, update}
-use Rattle.rules.specs.Board.{split, merge, Reshape, Board, onReshapes, epochOf}
+use Rattle.rules.specs.Board.{split, merge, Reshape, Board, onReshapes}
 use Rattle.rules.specs.WellFormed.{wellFormed}
 use Rattle.rules.specs.Draws.{Drawn, drew, missing, tooLarge, andThen, drawIndex, exchange, shuffleFrom, shuffle, drawFrom}
 use Rattle.rules.specs.Moves.{poolOf, isParty, withDrainBy, boundsStand}

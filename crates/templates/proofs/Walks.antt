@@ -7,7 +7,7 @@ use native.Mathlib.Omega.{arith}
 use native.Mathlib.Numerals.{add-one}
 use lib.Dec.{eqb}
 use lib.ListN.{length, take, drop, getD, drop-of-length-le}
-use lib.Seq.{drop-cons, drop-drop, drop-nil}
+use lib.Seq.{drop-cons, drop-drop}
 use Rattle.templates.specs.Lines.{firstLine, lineOf}
 
 -- ---- one line

@@ -4,12 +4,12 @@ use mathlib.Core.Path.{_≡_, refl, ap, sym, _∙_}
 use mathlib.Core.List.{List}
 use mathlib.Core.Bool.{Bool, true, false, _&&_, _||_}
 use native.Mathlib.Omega.{arith}
-use borrow.Author.Tests.{le-leb, lt-leb, leb-true, ne-eqb, eq-eqb}
+use borrow.Author.Tests.{le-leb, lt-leb, leb-true}
 use lib.Dec.{eqb, leb}
 use lib.ListN.{length, take, drop, length-drop}
-use lib.Seq.{drop-drop, length-take-le}
+use lib.Seq.{drop-drop}
 use Rattle.rules.specs.Lists.{distinct}
-use Rattle.word_tests.specs.Tests.{at, between, allPass, anyPass, allZero, idsOk, firstOk, rowsOk, tableOk}
+use Rattle.word_tests.specs.Tests.{at, allPass, anyPass, allZero, idsOk, firstOk, rowsOk, tableOk}
 use Rattle.word_tests.proofs.Tests.{left-true}
 use Rattle.word_tests.proofs.Loops.{rest-is}
 

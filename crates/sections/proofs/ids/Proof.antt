@@ -1,5 +1,5 @@
 use lib.ListN.{getD}
-use mathlib.Core.Path.{_≡_, sym, _∙_}
+use mathlib.Core.Path.{_≡_, sym}
 use Prim.Native.Nat.{_+_, _-_}
 use native.Mathlib.Omega.{arith}
 use Rattle.sections.proofs.Rooms.{ids-there, ids-past}

@@ -1,5 +1,4 @@
 use borrow.Author.Needs.{needs}
-use mathlib.Core.Path.{_∙_}
 use Rattle.word_tests.proofs.is_new.Statement.{statement}
 use Rattle.word_tests.proofs.is_new.Tie as tie
 

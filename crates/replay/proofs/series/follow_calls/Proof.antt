@@ -1,5 +1,4 @@
 use native.Mathlib.Omega.{arith}
-use borrow.Author.Needs.{needs}
 use Rattle.replay.proofs.series.follow_calls.Statement.{statement}
 use Rattle.replay.proofs.series.follow_calls.Tie as tie
 
