@@ -6,6 +6,8 @@ case "${ROSTER_RUST_SRC:-/}" in
     *) ROSTER_RUST_SRC=$PWD/$ROSTER_RUST_SRC ;;
 esac
 cd "$(dirname "$0")" || exit 1
+# boards are made and dropped at every call: to give their memory back each time takes a quarter of a comparison
+export MALLOC_TRIM_THRESHOLD_=67108864 MALLOC_TOP_PAD_=16777216
 passed=0 failed=0 skipped=0
 log=$(mktemp -d) || exit 1
 trap 'rm -rf "$log"' EXIT

@@ -58,20 +58,21 @@ fn same<T: PartialEq + std::fmt::Debug>(
     said: &[T],
     wanted: &[T],
 ) -> Result<(), String> {
+    if said == wanted {
+        return Ok(());
+    }
     demand(said.len() == wanted.len(), || {
         format!("{what}: another length")
     })?;
-    match said
+    let at = said
         .iter()
         .zip(wanted)
         .position(|(one, other)| one != other)
-    {
-        None => Ok(()),
-        Some(at) => Err(format!(
-            "{what}: at {at} the library has {:?} and the oracle {:?}",
-            said[at], wanted[at]
-        )),
-    }
+        .expect("a difference");
+    Err(format!(
+        "{what}: at {at} the library has {:?} and the oracle {:?}",
+        said[at], wanted[at]
+    ))
 }
 
 fn same_outcome(what: &str, said: Outcome, wanted: Outcome) -> Result<(), String> {
