@@ -3,12 +3,18 @@
 use std::hint::black_box;
 use std::time::Instant;
 
-/// A figure is the middle one of so many rounds: where a board happens to lie
-/// in memory is worth some nanoseconds, and each round has memory of its own.
-const ROUNDS: usize = 9;
+/// How many rounds each figure has. The rounds of all figures take turns: a
+/// while in which the machine has other work falls on some rounds of each.
+const ROUNDS: usize = 15;
+
+/// Of a row's rounds so many count, those in which its calls took least.
+const QUIET: usize = 5;
 
 /// How many calls a round has.
 const CALLS: usize = 600;
+
+/// The time of a call in one round, in nanoseconds.
+pub type Figure = Box<dyn FnMut() -> f64>;
 
 /// One call after another on what `fresh` makes, in nanoseconds; the clock's
 /// own time is in it.
@@ -30,26 +36,54 @@ fn middle(mut times: Vec<f64>) -> f64 {
 }
 
 /// The time of `act`, without the clock's.
-pub fn time<T: Clone>(state: &T, fresh: impl FnMut(&mut T), act: impl FnMut(&mut T)) -> f64 {
+pub fn time<T: Clone + 'static>(
+    state: T,
+    fresh: impl FnMut(&mut T) + 'static,
+    act: impl FnMut(&mut T) + 'static,
+) -> Figure {
     over(state, fresh, act, |_| ())
 }
 
 /// By how much `act` takes longer than `part`, the two in turn.
-pub fn over<T: Clone>(
-    state: &T,
-    mut fresh: impl FnMut(&mut T),
-    mut act: impl FnMut(&mut T),
-    mut part: impl FnMut(&mut T),
-) -> f64 {
-    let mut states = vec![state.clone(); ROUNDS];
-    let mut round = |state: &mut T| {
+pub fn over<T: Clone + 'static>(
+    state: T,
+    mut fresh: impl FnMut(&mut T) + 'static,
+    mut act: impl FnMut(&mut T) + 'static,
+    mut part: impl FnMut(&mut T) + 'static,
+) -> Figure {
+    // each round has memory of its own: where a board happens to lie is worth some nanoseconds
+    let mut states = vec![state; ROUNDS];
+    let mut rounds = 0;
+    Box::new(move || {
+        let state = &mut states[rounds];
+        rounds += 1;
         let one = |_| {
             let whole = sample(state, &mut fresh, &mut act);
             whole - sample(state, &mut fresh, &mut part)
         };
         middle((0..CALLS).map(one).collect())
+    })
+}
+
+/// The figures of each row: of its quiet rounds the middle one.
+pub fn measure(mut rows: Vec<Vec<Figure>>) -> Vec<Vec<f64>> {
+    let mut seen = vec![Vec::new(); rows.len()];
+    for _ in 0..ROUNDS {
+        for (row, rounds) in rows.iter_mut().zip(&mut seen) {
+            rounds.push(row.iter_mut().map(|figure| figure()).collect());
+        }
+    }
+    seen.into_iter().map(quiet_middle).collect()
+}
+
+fn quiet_middle(mut rounds: Vec<Vec<f64>>) -> Vec<f64> {
+    let total = |round: &Vec<f64>| round.iter().sum::<f64>();
+    rounds.sort_by(|a, b| total(a).total_cmp(&total(b)));
+    rounds.truncate(QUIET);
+    let middle_of = |figure: usize| {
+        let mut times: Vec<f64> = rounds.iter().map(|round| round[figure]).collect();
+        times.sort_by(f64::total_cmp);
+        times[QUIET / 2]
     };
-    let mut figures: Vec<f64> = states.iter_mut().map(&mut round).collect();
-    figures.sort_by(f64::total_cmp);
-    figures[ROUNDS / 2]
+    (0..rounds[0].len()).map(middle_of).collect()
 }

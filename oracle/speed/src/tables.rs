@@ -1,6 +1,7 @@
 //! The tables of docs/SPEED.md but for the stack's.
 
 use std::hint::black_box;
+use std::rc::Rc;
 
 use board::{Board, write};
 use calls::{Call, bytes_of, step_name};
@@ -8,19 +9,12 @@ use plain::Step;
 use roster::exports;
 
 use crate::boards::{SHAPES, Shape, Situation, base, growing, situation, worst};
-use crate::clock::{over, time};
+use crate::clock::{Figure, measure, over, time};
 use crate::library::Room;
 use crate::{library, maps, snapshot};
 
 pub fn print() {
-    for shape in SHAPES {
-        println!("\n### {shape}\n");
-        println!(
-            "| step | the step less the check | Rust | ratio | snapshot in, step, out | by three calls | Rust | ratio |"
-        );
-        println!("|---|--:|--:|--:|--:|--:|--:|--:|");
-        steps().for_each(|step| print_step(&situation(shape, step)));
-    }
+    print_steps();
     print_checks();
     print_growth();
 }
@@ -51,26 +45,54 @@ fn assert_agree(at: &Situation) {
     assert!(room.written() == out, "{} differs", step_name(at.call.step));
 }
 
-fn print_step(at: &Situation) {
-    assert_agree(at);
-    let (ours, rust) = (in_place(at), in_maps(at));
-    let (one, three) = (round(at, Room::round), round(at, Room::three));
-    let rust_round = round_in_maps(at);
+fn print_steps() {
+    let row = |at: (Shape, Step)| step_figures(Rc::new(situation(at.0, at.1)));
+    let rows = SHAPES
+        .into_iter()
+        .flat_map(|s| steps().map(move |step| (s, step)));
+    let figures = measure(rows.map(row).collect());
+    for (shape, rows) in SHAPES.into_iter().zip(figures.chunks(steps().count())) {
+        println!("\n### {shape}\n");
+        println!(
+            "| step | the step less the check | Rust | ratio | snapshot in, step, out | by three calls | Rust | ratio |"
+        );
+        println!("|---|--:|--:|--:|--:|--:|--:|--:|");
+        steps()
+            .zip(rows)
+            .for_each(|(step, row)| print_step(step, row));
+    }
+}
+
+fn step_figures(at: Rc<Situation>) -> Vec<Figure> {
+    assert_agree(&at);
+    vec![
+        in_place(at.clone()),
+        in_maps(at.clone()),
+        round(at.clone(), Room::round),
+        round(at.clone(), Room::three),
+        round_in_maps(at),
+    ]
+}
+
+fn print_step(step: Step, row: &[f64]) {
+    let [ours, rust, one, three, rust_round] = row else {
+        unreachable!("as `step_figures` has them")
+    };
     println!(
         "| {} | {ours:.0} | {rust:.0} | {:.2} | {one:.0} | {three:.0} | {rust_round:.0} | {:.2} |",
-        marked(at.call.step),
+        marked(step),
         ours / rust,
         one / rust_round
     );
 }
 
 /// The step in place, less the check.
-fn in_place(at: &Situation) -> f64 {
+fn in_place(at: Rc<Situation>) -> Figure {
     let template = library::words(&at.board);
     over(
-        &template,
-        |words| words.copy_from_slice(&template),
-        |words| {
+        template.clone(),
+        move |words| words.copy_from_slice(&template),
+        move |words| {
             black_box(library::act(words, &at.call));
         },
         |words| {
@@ -80,28 +102,30 @@ fn in_place(at: &Situation) -> f64 {
 }
 
 /// The Rust's own function on its live state.
-fn in_maps(at: &Situation) -> f64 {
+fn in_maps(at: Rc<Situation>) -> Figure {
     let template = judge::to_state(&at.board);
+    let (step, args) = (at.call.step, at.call.args);
     time(
-        &template,
-        |state| {
+        template.clone(),
+        move |state| {
             state.clone_from(&template);
             rand::lend(&at.call.draws);
         },
-        |state| maps::act(state, at.call.step, at.call.args),
+        move |state| maps::act(state, step, args),
     )
 }
 
-fn round(at: &Situation, act: fn(&mut Room, &Call)) -> f64 {
-    time(&Room::of(&at.board), |_| (), |room| act(room, &at.call))
+fn round(at: Rc<Situation>, act: fn(&mut Room, &Call)) -> Figure {
+    time(Room::of(&at.board), |_| (), move |room| act(room, &at.call))
 }
 
-fn round_in_maps(at: &Situation) -> f64 {
+fn round_in_maps(at: Rc<Situation>) -> Figure {
     let bytes = bytes_of(&write(&at.board));
+    let lent = at.clone();
     time(
-        &Vec::new(),
-        |_| rand::lend(&at.call.draws),
-        |out| round_once_in_maps(&bytes, at, out),
+        Vec::new(),
+        move |_| rand::lend(&lent.call.draws),
+        move |out| round_once_in_maps(&bytes, &at, out),
     )
 }
 
@@ -112,42 +136,61 @@ fn round_once_in_maps(bytes: &[u8], at: &Situation, out: &mut Vec<u8>) {
 }
 
 fn print_checks() {
+    let mut boards: Vec<(String, Board)> = SHAPES.map(|s| (s.to_string(), base(s))).to_vec();
+    boards.push(("the worst: 24 committees of 96".to_string(), worst()));
+    let figures = measure(
+        boards
+            .iter()
+            .map(|(_, board)| check_figures(board))
+            .collect(),
+    );
     println!("\n### The check alone, a read and a write\n");
     println!("| board | the check | one pass | passes | a read | a write |");
     println!("|---|--:|--:|--:|--:|--:|");
-    for shape in SHAPES {
-        print_check(&shape.to_string(), &base(shape));
+    for ((name, _), row) in boards.iter().zip(figures) {
+        let [check, pass, read, write] = row[..] else {
+            unreachable!("as `check_figures` has them")
+        };
+        println!(
+            "| {name} | {check:.0} | {pass:.0} | {:.2} | {read:.0} | {write:.0} |",
+            check / pass
+        );
     }
-    print_check("the worst: 24 committees of 96", &worst());
 }
 
-fn print_check(name: &str, board: &Board) {
+fn check_figures(board: &Board) -> Vec<Figure> {
     let room = Room::of(board);
-    let timed = |act: fn(&mut Room)| time(&room, |_| (), act);
-    let (check, pass) = (timed(Room::check), timed(Room::pass));
-    let (read, write) = (timed(Room::read), timed(Room::write));
-    println!(
-        "| {name} | {check:.0} | {pass:.0} | {:.2} | {read:.0} | {write:.0} |",
-        check / pass
-    );
+    [Room::check, Room::pass, Room::read, Room::write]
+        .map(|act: fn(&mut Room)| time(room.clone(), |_| (), act))
+        .into()
 }
 
 fn print_growth() {
     let shapes = growing();
+    let figures = measure(steps().map(|step| growth_figures(&shapes, step)).collect());
     let heads: Vec<String> = shapes.iter().map(|s| s.machines.to_string()).collect();
     println!("\n### From 16 machines to 256, S=4\n");
     println!("| step | {} | times | Rust's |", heads.join(" | "));
     println!("|---|--:|--:|--:|--:|--:|--:|--:|");
-    for step in steps() {
-        let all: Vec<Situation> = shapes.iter().map(|s: &Shape| situation(*s, step)).collect();
-        let ours: Vec<f64> = all.iter().map(in_place).collect();
-        let rust = in_maps(&all[4]) / in_maps(&all[0]);
+    for (step, row) in steps().zip(figures) {
+        let (ours, rust) = row.split_at(shapes.len());
         let cells: Vec<String> = ours.iter().map(|time| format!("{time:.0}")).collect();
         println!(
-            "| {} | {} | {:.1} | {rust:.1} |",
+            "| {} | {} | {:.1} | {:.1} |",
             marked(step),
             cells.join(" | "),
-            ours[4] / ours[0]
+            ours[ours.len() - 1] / ours[0],
+            rust[1] / rust[0]
         );
     }
+}
+
+/// In place on each board, and in maps on the first and on the last.
+fn growth_figures(shapes: &[Shape], step: Step) -> Vec<Figure> {
+    let all: Vec<Rc<Situation>> = shapes
+        .iter()
+        .map(|shape| Rc::new(situation(*shape, step)))
+        .collect();
+    let ends = [0, all.len() - 1].map(|end| in_maps(all[end].clone()));
+    all.into_iter().map(in_place).chain(ends).collect()
 }
