@@ -1,5 +1,7 @@
 // Bytes to the lent words of a board: first whether they are a well-formed board's snapshot, then its words.
 use board::layout::BOARD_SIZE;
+use board::layout::BOUNDARY_WIDTH;
+use board::layout::COMMITTEE_WIDTH;
 use board::layout::LAST_SHARD;
 use board::layout::MACHINE_WIDTH;
 use board::layout::MACHINES_AT;
@@ -10,6 +12,7 @@ use board::layout::MOST_MEMBERS;
 use board::layout::MOST_RESHAPES;
 use board::layout::MOST_ROTATIONS;
 use board::layout::RESHAPE_WIDTH;
+use board::layout::ROTATION_WIDTH;
 use board::layout::SETTINGS_END;
 use bytes_words::get_words;
 use row_tests::RowKind;
@@ -19,9 +22,9 @@ use types::Answer;
 use unpacking::unpack_board;
 use unpacking::unpack_machine;
 use unpacking::unpack_row;
-use unpacking::width;
 use unpacking::word;
 use wellformed::settings_ok;
+use word_tests::MARKS;
 use word_tests::ids_ok;
 use word_tests::inside;
 use word_tests::rises;
@@ -30,10 +33,10 @@ ghost use mathlib.Core.List.{List};
 ghost use mathlib.Core.Bool.{false, _&&_};
 ghost use Prim.Native.Nat.{ℕ, _+_, _/_, _%_, _≤_};
 ghost use lib.ListN.{length, getD, drop};
-ghost use Rattle.word_tests.specs.Tests.{at, idsOk, rises};
-ghost use Rattle.rules.specs.Board.{mostMachines, mostMembers};
+ghost use Rattle.word_tests.specs.Tests.{at, markCount, idsOk, rises};
+ghost use Rattle.rules.specs.Board.{mostMachines, mostCommittees, mostMembers, mostBounds, mostRotations, mostReshapes};
 ghost use Rattle.rules.specs.WellFormed.{isShard};
-ghost use Rattle.board.specs.Layout.{committeeWidth, reshapeWidth};
+ghost use Rattle.board.specs.Layout.{committeeWidth};
 ghost use Rattle.row_tests.specs.Rows.{inPairs, widthOf};
 ghost use Rattle.snapshot.specs.ReadAs.{ReadAs};
 ghost use Rattle.unpacking.specs.AsWords.{AsWords};
@@ -93,22 +96,31 @@ fn wide_end(k: RowKind, last: bool, bytes: &[u8], at: usize, out: &mut [u64]) ->
     e
 }
 
-// ---- Committees: the members as they are read, without the room past them
+// ---- Committees: the members as they are read, without the room past them; by marks that serve many committees
 
-fn members_ok(n: usize, t: &[u64]) -> bool
-    requires { ⌜ length (now t) ≡ 2 + n ⌝ }
+fn members_ok(marks: &mut [u8], stamp: u8, n: usize, t: &[u64]) -> bool
+    requires { ⌜ (length (now marks) ≡ markCount) × (length (now t) ≡ 2 + n) ⌝ }
     ensures { λ r. ⌜ r ≡ (isShard (at (now (t .entry)) 0) && idsOk n (drop 1 (now (t .entry)))) ⌝ }
 {
-    inside(1, LAST_SHARD, t[0]) & ids_ok(n, &t[1..])
+    let members = ids_ok(marks, stamp, n, &t[1..]);
+    inside(1, LAST_SHARD, t[0]) & members
 }
 
 // As `row_end`, of a committee of n.
-fn members_end(last: bool, n: usize, bytes: &[u8], at: usize, row: &mut [u64]) -> usize
-    requires { ⌜ (length (now row) ≡ 2 + n) × (at + 2 + n ≤ length (now bytes) / 8) × (n ≤ mostMembers) ⌝ }
+fn members_end(
+    last: bool,
+    n: usize,
+    bytes: &[u8],
+    at: usize,
+    row: &mut [u64],
+    marks: &mut [u8],
+    stamp: u8,
+) -> usize
+    requires { ⌜ (length (now row) ≡ 2 + n) × (at + 2 + n ≤ length (now bytes) / 8) × (n ≤ mostMembers) × (length (now marks) ≡ markCount) ⌝ }
     ensures { λ r. ⌜ ((ws : List ℕ) → AsWords (now (bytes .entry)) ws → n ≡ getD ws (at + 1) 0 → TellsRow RowKind.Committees last ws at r) ⌝ }
 {
     get_words(bytes, 8 * at, row);
-    if !members_ok(n, row) {
+    if !members_ok(marks, stamp, n, row) {
         return 0;
     }
     let e = at + 2 + n;
@@ -122,8 +134,15 @@ fn members_end(last: bool, n: usize, bytes: &[u8], at: usize, row: &mut [u64]) -
 }
 
 // As `row_end`, of a committee.
-fn committee_end(last: bool, bytes: &[u8], at: usize, row: &mut [u64]) -> usize
-    requires { ⌜ length (now row) ≡ committeeWidth ⌝ }
+fn committee_end(
+    last: bool,
+    bytes: &[u8],
+    at: usize,
+    row: &mut [u64],
+    marks: &mut [u8],
+    stamp: u8,
+) -> usize
+    requires { ⌜ (length (now row) ≡ committeeWidth) × (length (now marks) ≡ markCount) ⌝ }
     ensures { λ r. ⌜ ((ws : List ℕ) → AsWords (now (bytes .entry)) ws → TellsRow RowKind.Committees last ws at r) ⌝ }
 {
     let total = bytes.len() / 8;
@@ -138,7 +157,50 @@ fn committee_end(last: bool, bytes: &[u8], at: usize, row: &mut [u64]) -> usize
         return 0;
     }
     let k = 2 + n;
-    members_end(last, n, bytes, at, &mut row[..k])
+    members_end(last, n, bytes, at, &mut row[..k], marks, stamp)
+}
+
+fn lone_committee_end(last: bool, bytes: &[u8], at: usize, row: &mut [u64]) -> usize
+    requires { ⌜ length (now row) ≡ committeeWidth ⌝ }
+    ensures { λ r. ⌜ ((ws : List ℕ) → AsWords (now (bytes .entry)) ws → TellsRow RowKind.Committees last ws at r) ⌝ }
+{
+    let mut marks: [u8; MARKS] = [0; MARKS];
+    committee_end(last, bytes, at, row, &mut marks, 1)
+}
+
+// As `section_end`, of the committees: each has its own stamp.
+fn committees_end_marking(bytes: &[u8], at: usize, row: &mut [u64], marks: &mut [u8]) -> usize
+    requires { ⌜ (length (now bytes) % 8 ≡ 0) × (length (now row) ≡ committeeWidth) × (length (now marks) ≡ markCount) ⌝ }
+    ensures { λ r. ⌜ ((ws : List ℕ) → AsWords (now (bytes .entry)) ws → TellsSection RowKind.Committees mostCommittees ws at r) ⌝ }
+{
+    if at == 0 {
+        return 0;
+    }
+    if bytes.len() / 8 <= at {
+        return 0;
+    }
+    let mut n = word(bytes, at) as usize;
+    if MOST_COMMITTEES < n {
+        return 0;
+    }
+    let mut a = at + 1;
+    while 0 < n {
+        a = committee_end(n == 1, bytes, a, row, marks, (n % 256) as u8);
+        if a == 0 {
+            return 0;
+        }
+        n -= 1;
+    }
+    a
+}
+
+fn committees_end(bytes: &[u8], at: usize) -> usize
+    requires { ⌜ length (now bytes) % 8 ≡ 0 ⌝ }
+    ensures { λ r. ⌜ ((ws : List ℕ) → AsWords (now (bytes .entry)) ws → TellsSection RowKind.Committees mostCommittees ws at r) ⌝ }
+{
+    let mut row: [u64; COMMITTEE_WIDTH] = [0; COMMITTEE_WIDTH];
+    let mut marks: [u8; MARKS] = [0; MARKS];
+    committees_end_marking(bytes, at, &mut row, &mut marks)
 }
 
 // ---- A row of any kind
@@ -150,7 +212,7 @@ pub fn row_end(k: RowKind, last: bool, bytes: &[u8], at: usize, out: &mut [u64])
 {
     match k {
         RowKind::Machines => wide_end(k, last, bytes, at, out),
-        RowKind::Committees => committee_end(last, bytes, at, out),
+        RowKind::Committees => lone_committee_end(last, bytes, at, out),
         RowKind::Boundaries => wide_end(k, last, bytes, at, out),
         RowKind::Rotations => wide_end(k, last, bytes, at, out),
         RowKind::Reshapes => wide_end(k, last, bytes, at, out),
@@ -211,7 +273,7 @@ fn machines_end(bytes: &[u8], at: usize) -> usize
 
 // Where the good section at a place ends; 0 where there is none. `row` is scratch for its rows.
 fn section_end(k: RowKind, cap: usize, bytes: &[u8], at: usize, row: &mut [u64]) -> usize
-    requires { ⌜ (length (now bytes) % 8 ≡ 0) × (length (now row) ≡ reshapeWidth) ⌝ }
+    requires { ⌜ (length (now bytes) % 8 ≡ 0) × (length (now row) ≡ widthOf k) ⌝ }
     ensures { λ r. ⌜ ((ws : List ℕ) → AsWords (now (bytes .entry)) ws → TellsSection k cap ws at r) ⌝ }
 {
     if at == 0 {
@@ -224,16 +286,56 @@ fn section_end(k: RowKind, cap: usize, bytes: &[u8], at: usize, row: &mut [u64])
     if cap < n {
         return 0;
     }
-    let w = width(k);
     let mut a = at + 1;
     while 0 < n {
-        a = row_end(k, n == 1, bytes, a, &mut row[..w]);
+        a = row_end(k, n == 1, bytes, a, row);
         if a == 0 {
             return 0;
         }
         n -= 1;
     }
     a
+}
+
+fn boundaries_end(bytes: &[u8], at: usize) -> usize
+    requires { ⌜ length (now bytes) % 8 ≡ 0 ⌝ }
+    ensures { λ r. ⌜ ((ws : List ℕ) → AsWords (now (bytes .entry)) ws → TellsSection RowKind.Boundaries mostBounds ws at r) ⌝ }
+{
+    let mut row: [u64; BOUNDARY_WIDTH] = [0; BOUNDARY_WIDTH];
+    section_end(RowKind::Boundaries, MOST_BOUNDS, bytes, at, &mut row)
+}
+
+fn rotations_end(bytes: &[u8], at: usize) -> usize
+    requires { ⌜ length (now bytes) % 8 ≡ 0 ⌝ }
+    ensures { λ r. ⌜ ((ws : List ℕ) → AsWords (now (bytes .entry)) ws → TellsSection RowKind.Rotations mostRotations ws at r) ⌝ }
+{
+    let mut row: [u64; ROTATION_WIDTH] = [0; ROTATION_WIDTH];
+    section_end(RowKind::Rotations, MOST_ROTATIONS, bytes, at, &mut row)
+}
+
+fn some_reshapes_end(bytes: &[u8], at: usize) -> usize
+    requires { ⌜ length (now bytes) % 8 ≡ 0 ⌝ }
+    ensures { λ r. ⌜ ((ws : List ℕ) → AsWords (now (bytes .entry)) ws → TellsSection RowKind.Reshapes mostReshapes ws at r) ⌝ }
+{
+    let mut row: [u64; RESHAPE_WIDTH] = [0; RESHAPE_WIDTH];
+    section_end(RowKind::Reshapes, MOST_RESHAPES, bytes, at, &mut row)
+}
+
+// Most boards have none, and need no scratch for the widest row.
+fn reshapes_end(bytes: &[u8], at: usize) -> usize
+    requires { ⌜ length (now bytes) % 8 ≡ 0 ⌝ }
+    ensures { λ r. ⌜ ((ws : List ℕ) → AsWords (now (bytes .entry)) ws → TellsSection RowKind.Reshapes mostReshapes ws at r) ⌝ }
+{
+    if at == 0 {
+        return 0;
+    }
+    if bytes.len() / 8 <= at {
+        return 0;
+    }
+    if word(bytes, at) == 0 {
+        return at + 1;
+    }
+    some_reshapes_end(bytes, at)
 }
 
 // The settings are tested as a board has them, with zeros in the room for more.
@@ -257,12 +359,11 @@ pub fn is_snapshot(bytes: &[u8]) -> bool
     if bytes.len() % 8 != 0 {
         return false;
     }
-    let mut row: [u64; RESHAPE_WIDTH] = [0; RESHAPE_WIDTH];
     let m = machines_end(bytes, SETTINGS_END);
-    let c = section_end(RowKind::Committees, MOST_COMMITTEES, bytes, m, &mut row);
-    let b = section_end(RowKind::Boundaries, MOST_BOUNDS, bytes, c, &mut row);
-    let o = section_end(RowKind::Rotations, MOST_ROTATIONS, bytes, b, &mut row);
-    let r = section_end(RowKind::Reshapes, MOST_RESHAPES, bytes, o, &mut row);
+    let c = committees_end(bytes, m);
+    let b = boundaries_end(bytes, c);
+    let o = rotations_end(bytes, b);
+    let r = reshapes_end(bytes, o);
     head_ok(bytes) & (r == bytes.len() / 8)
 }
 

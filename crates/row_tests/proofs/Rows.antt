@@ -6,7 +6,7 @@ use mathlib.Core.Logic.{inl, inr}
 use mathlib.Core.Option.{Option, none, some}
 use mathlib.Core.Bool.{Bool, true, false, _&&_, or-false}
 use native.Mathlib.Omega.{arith}
-use borrow.Author.Tests.{leb-true, eqb-true, eq-eqb, ne-eqb}
+use borrow.Author.Tests.{leb-true, le-leb, lt-leb, eqb-true, eq-eqb, ne-eqb}
 use lib.Dec.{eqb, leb}
 use lib.ListN.{length, getD, drop, length-drop}
 use lib.Seq.{take-all}
@@ -133,7 +133,7 @@ unfolding machineOk machineWords goodMachine
 machine-complete e g = place-complete (e .val) (and-parts _ _ g .1)
 
 -- by its code: what the words of a place may be, asked once
-pub place-known : (c m r s : ℕ) → c ≤ 4
+place-known : (c m r s : ℕ) → c ≤ 4
     → (within (getD (0 ∷ 1 ∷ 1 ∷ 0 ∷ 1 ∷ []) c 0) (getD (0 ∷ 65535 ∷ 65535 ∷ 0 ∷ 255 ∷ []) c 0) m && leb r (getD (0 ∷ 1 ∷ 0 ∷ 0 ∷ 0 ∷ []) c 0) && leb s (getD (0 ∷ 8589934591 ∷ 8589934591 ∷ 0 ∷ 0 ∷ []) c 0))
     ≡ anyPass (placeCases c m r s)
 unfolding anyPass allPass caseOk
@@ -143,6 +143,21 @@ place-known (suc (suc zero)) m r s h = simp or-false
 place-known (suc (suc (suc zero))) m r s h = simp or-false
 place-known (suc (suc (suc (suc zero)))) m r s h = refl
 place-known (suc (suc (suc (suc (suc c))))) m r s h = absurd (omega arith)
+
+-- the same by branches, with the bounds that a code has
+module _ (c m r s low high ready stamp : ℕ) (h : c ≤ 4) (el : low ≡ getD (0 ∷ 1 ∷ 1 ∷ 0 ∷ 1 ∷ []) c 0) (eh : high ≡ getD (0 ∷ 65535 ∷ 65535 ∷ 0 ∷ 255 ∷ []) c 0)
+    (er : ready ≡ getD (0 ∷ 1 ∷ 0 ∷ 0 ∷ 0 ∷ []) c 0) (es : stamp ≡ getD (0 ∷ 8589934591 ∷ 8589934591 ∷ 0 ∷ 0 ∷ []) c 0) where
+  place-is : (within low high m && leb r ready && leb s stamp) ≡ anyPass (placeCases c m r s)
+  place-is = rw (el, eh, er, es) (place-known c m r s h)
+
+  pub mark-fails : within low high m ≡ false → false ≡ anyPass (placeCases c m r s)
+  mark-fails e = rw e at place-is
+
+  pub ready-fails : within low high m ≡ true → ready < r → false ≡ anyPass (placeCases c m r s)
+  ready-fails e l = rw (e, lt-leb r ready l) at place-is
+
+  pub stamp-tells : within low high m ≡ true → r ≤ ready → leb s stamp ≡ anyPass (placeCases c m r s)
+  stamp-tells e l = rw (e, le-leb r ready l) at place-is
 
 pub place-other : (c m r s : ℕ) → 4 < c → false ≡ anyPass (placeCases c m r s)
 unfolding anyPass allPass caseOk

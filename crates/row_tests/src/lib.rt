@@ -11,13 +11,14 @@ use board::layout::RESHAPE_WIDTH;
 use board::layout::RIGHT_AT;
 use board::layout::SEAT_WIDTH;
 use board::layout::SEATS_AT;
+use word_tests::MARKS;
 ghost use mathlib.Core.Path.{_≡_};
 ghost use mathlib.Core.List.{[], _∷_};
 ghost use mathlib.Core.Bool.{false};
 ghost use Prim.Native.Nat.{_≤_};
 ghost use lib.ListN.{length};
 ghost use Rattle.board.specs.Layout.{machineWidth, committeeWidth, boundaryWidth, rotationWidth, seatWidth, reshapeWidth};
-ghost use Rattle.word_tests.specs.Tests.{at, rises, firstOk};
+ghost use Rattle.word_tests.specs.Tests.{at, markCount, rises, firstOk};
 ghost use Rattle.row_tests.specs.Rows.{machineOk, committeeOk, optionOk, boundaryOk, rotationOk, seatOk, seatsOk, epochsOk, flagsOk, halvesOk, reshapeOk, rowOk, widthOf};
 
 // ---- The ranges of rules/specs/Board.antt
@@ -42,7 +43,7 @@ fn by_code(code: u64, pooled: u64, seated: u64, observing: u64, short: u64, othe
     }
 }
 
-// The words that a place does not use are 0.
+// The words that a place does not use are 0. By branches: a good row takes none.
 pub fn machine_ok(t: &[u64]) -> bool
     requires { ⌜ length (now t) ≡ machineWidth ⌝ }
     ensures { λ r. ⌜ r ≡ machineOk (now (t .entry)) ⌝ }
@@ -55,16 +56,30 @@ pub fn machine_ok(t: &[u64]) -> bool
     let mark_most = by_code(code, 0, LAST_SHARD, LAST_SHARD, 0, LAST_MARK);
     let ready_most = by_code(code, 0, 1, 0, 0, 0);
     let stamp_most = by_code(code, 0, LAST_STAMP, LAST_STAMP, 0, 0);
-    word_tests::inside(mark_least, mark_most, t[2]) & (t[3] <= ready_most) & (t[4] <= stamp_most)
+    if !word_tests::inside(mark_least, mark_most, t[2]) {
+        return false;
+    }
+    if ready_most < t[3] {
+        return false;
+    }
+    t[4] <= stamp_most
 }
 
-// The shard, then the members.
-fn committee_ok(t: &[u64]) -> bool
+// The shard, then the members; by marks that serve many committees.
+pub fn committee_ok(marks: &mut [u8], stamp: u8, t: &[u64]) -> bool
+    requires { ⌜ (length (now marks) ≡ markCount) × (length (now t) ≡ committeeWidth) ⌝ }
+    ensures { λ r. ⌜ r ≡ committeeOk (now (t .entry)) ⌝ }
+{
+    let members = word_tests::ids_ok(marks, stamp, MOST_MEMBERS, &t[MEMBERS_AT..COMMITTEE_WIDTH]);
+    word_tests::inside(1, LAST_SHARD, t[0]) & members
+}
+
+fn lone_committee_ok(t: &[u64]) -> bool
     requires { ⌜ length (now t) ≡ committeeWidth ⌝ }
     ensures { λ r. ⌜ r ≡ committeeOk (now (t .entry)) ⌝ }
 {
-    word_tests::inside(1, LAST_SHARD, t[0])
-        & word_tests::ids_ok(MOST_MEMBERS, &t[MEMBERS_AT..COMMITTEE_WIDTH])
+    let mut marks: [u8; MARKS] = [0; MARKS];
+    committee_ok(&mut marks, 1, t)
 }
 
 // A flag and a value: none has no value.
@@ -157,9 +172,10 @@ fn halves_ok(t: &[u64]) -> bool
     requires { ⌜ length (now t) ≡ reshapeWidth ⌝ }
     ensures { λ r. ⌜ r ≡ halvesOk (now (t .entry)) ⌝ }
 {
-    word_tests::ids_ok(MOST_HALF, &t[LEFT_AT..RIGHT_AT])
-        & word_tests::ids_ok(MOST_HALF, &t[RIGHT_AT..RESHAPE_WIDTH])
-        & (((t[1] == 0) & (t[5] == 1)) | ((t[LEFT_AT] == 0) & (t[RIGHT_AT] == 0)))
+    let mut marks: [u8; MARKS] = [0; MARKS];
+    let left = word_tests::ids_ok(&mut marks, 1, MOST_HALF, &t[LEFT_AT..RIGHT_AT]);
+    let right = word_tests::ids_ok(&mut marks, 2, MOST_HALF, &t[RIGHT_AT..RESHAPE_WIDTH]);
+    left & right & (((t[1] == 0) & (t[5] == 1)) | ((t[LEFT_AT] == 0) & (t[RIGHT_AT] == 0)))
 }
 
 fn reshape_ok(t: &[u64]) -> bool
@@ -185,7 +201,7 @@ pub fn row_ok(k: RowKind, t: &[u64]) -> bool
 {
     match k {
         RowKind::Machines => machine_ok(t),
-        RowKind::Committees => committee_ok(t),
+        RowKind::Committees => lone_committee_ok(t),
         RowKind::Boundaries => boundary_ok(t),
         RowKind::Rotations => rotation_ok(t),
         RowKind::Reshapes => reshape_ok(t),

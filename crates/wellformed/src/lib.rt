@@ -19,15 +19,16 @@ use board::layout::ROTATION_WIDTH;
 use board::layout::ROTATIONS_AT;
 use board::layout::SETTINGS_END;
 use row_tests::RowKind;
+use word_tests::MARKS;
 ghost use mathlib.Core.Path.{_≡_};
 ghost use mathlib.Core.Bool.{false};
 ghost use Prim.Native.Nat.{_≤_};
 ghost use lib.ListN.{length};
-ghost use Rattle.rules.specs.Board.{mostMachines};
-ghost use Rattle.board.specs.Layout.{machineWidth, machinesAt, boardSize};
-ghost use Rattle.word_tests.specs.Tests.{rises, firstOk};
-ghost use Rattle.row_tests.specs.declared.RowKind.the-variants.{Machines};
-ghost use Rattle.row_tests.specs.Rows.{machineOk, rowOk, inPairs, widthOf, Shape, kindOk};
+ghost use Rattle.rules.specs.Board.{mostMachines, mostCommittees};
+ghost use Rattle.board.specs.Layout.{machineWidth, committeeWidth, machinesAt, boardSize};
+ghost use Rattle.word_tests.specs.Tests.{markCount, rises, firstOk};
+ghost use Rattle.row_tests.specs.declared.RowKind.the-variants.{Machines, Committees};
+ghost use Rattle.row_tests.specs.Rows.{machineOk, committeeOk, rowOk, inPairs, widthOf, Shape, kindOk};
 ghost use Rattle.wellformed.specs.Tells.{Tells};
 ghost use Rattle.wellformed.specs.Check.{numbersOk, settingsOk, shardsOk, underwayOk};
 
@@ -74,15 +75,20 @@ fn table_ok(k: RowKind, w: usize, pairs: bool, cap: usize, t: &[u64]) -> bool
     word_tests::all_zero(&t[a..])
 }
 
-// The same of machines, by far the most rows: their kind is not looked for at each.
+// The same of machines, by far the most rows: their kind is not looked for at each, and what a good row never takes is a branch.
 fn first_machine_ok(n: usize, t: &[u64]) -> bool
     ensures { λ r. ⌜ r ≡ firstOk machineOk (rises false) machineWidth n (now (t .entry)) ⌝ }
 {
     if t.len() < MACHINE_WIDTH {
         return false;
     }
-    row_tests::machine_ok(&t[..MACHINE_WIDTH])
-        & ((n == 1) | word_tests::rises(false, t, &t[MACHINE_WIDTH..]))
+    if !row_tests::machine_ok(&t[..MACHINE_WIDTH]) {
+        return false;
+    }
+    if n == 1 {
+        return true;
+    }
+    word_tests::rises(false, t, &t[MACHINE_WIDTH..])
 }
 
 fn machines_ok(t: &[u64]) -> bool
@@ -102,6 +108,50 @@ fn machines_ok(t: &[u64]) -> bool
         n -= 1;
     }
     word_tests::all_zero(&t[a..])
+}
+
+// The same of committees: they share their marks, and each has its own stamp.
+fn first_committee_ok(n: usize, marks: &mut [u8], t: &[u64]) -> bool
+    requires { ⌜ length (now marks) ≡ markCount ⌝ }
+    ensures { λ r. ⌜ r ≡ firstOk committeeOk (rises false) committeeWidth n (now (t .entry)) ⌝ }
+{
+    if t.len() < COMMITTEE_WIDTH {
+        return false;
+    }
+    if !row_tests::committee_ok(marks, (n % 256) as u8, &t[..COMMITTEE_WIDTH]) {
+        return false;
+    }
+    if n == 1 {
+        return true;
+    }
+    word_tests::rises(false, t, &t[COMMITTEE_WIDTH..])
+}
+
+fn committees_ok_marking(marks: &mut [u8], t: &[u64]) -> bool
+    requires { ⌜ (length (now marks) ≡ markCount) × (1 ≤ length (now t)) ⌝ }
+    ensures { λ r. ⌜ r ≡ kindOk Committees mostCommittees (now (t .entry)) ⌝ }
+{
+    let mut n = t[0] as usize;
+    if MOST_COMMITTEES < n {
+        return false;
+    }
+    let mut a: usize = 1;
+    while 0 < n {
+        if !first_committee_ok(n, marks, &t[a..]) {
+            return false;
+        }
+        a += COMMITTEE_WIDTH;
+        n -= 1;
+    }
+    word_tests::all_zero(&t[a..])
+}
+
+fn committees_ok(t: &[u64]) -> bool
+    requires { ⌜ 1 ≤ length (now t) ⌝ }
+    ensures { λ r. ⌜ r ≡ kindOk Committees mostCommittees (now (t .entry)) ⌝ }
+{
+    let mut marks: [u8; MARKS] = [0; MARKS];
+    committees_ok_marking(&mut marks, t)
 }
 
 // ---- The board
@@ -131,15 +181,8 @@ fn shards_ok(board: &[u64]) -> bool
     requires { ⌜ length (now board) ≡ boardSize ⌝ }
     ensures { λ r. ⌜ r ≡ shardsOk (now (board .entry)) ⌝ }
 {
-    let c = &board[COMMITTEES_AT..BOUNDS_AT];
     let b = &board[BOUNDS_AT..ROTATIONS_AT];
-    table_ok(
-        RowKind::Committees,
-        COMMITTEE_WIDTH,
-        false,
-        MOST_COMMITTEES,
-        c,
-    )
+    committees_ok(&board[COMMITTEES_AT..BOUNDS_AT])
         & table_ok(RowKind::Boundaries, BOUNDARY_WIDTH, false, MOST_BOUNDS, b)
 }
 

@@ -5,10 +5,12 @@ use mathlib.Core.List.{List, [], _∷_}
 use mathlib.Core.Bool.{Bool, true, false, not, _&&_, and-assoc, and-true}
 use native.Mathlib.Omega.{arith}
 use native.Mathlib.Numerals.{add-one}
+use borrow.Author.Tests.{eq-eqb, ne-eqb, eqb-true, eqb-false}
+use lib.Bits.{bitOr, bitAnd, or-add-and, and-le-l, and-le-r}
 use lib.Dec.{eqb}
 use lib.ListN.{length, getD, take, drop, drop-of-length-le, length-drop}
 use lib.Seq.{drop-cons, take-all}
-use Rattle.rules.specs.Lists.{_or_, every, any, has, distinct}
+use Rattle.rules.specs.Lists.{_or_, every, any, has}
 use Rattle.word_tests.specs.Tests.{allZero}
 use Rattle.word_tests.proofs.Tests.{and-is}
 
@@ -16,15 +18,6 @@ use Rattle.word_tests.proofs.Tests.{and-is}
 module _ (F : List ℕ → Bool) (g : ℕ → List ℕ → Bool) (nil : F [] ≡ true) (cons : (x : ℕ) (t : List ℕ) → F (x ∷ t) ≡ (g x t && F t)) where
   step : (t : List ℕ) (i : ℕ) → i < length t → F (drop i t) ≡ (g (getD t i 0) (drop (i + 1) t) && F (drop (i + 1) t))
   step t i h = rw (add-one i) (ap F (drop-cons t i 0 h) ∙ cons _ _)
-
-  pub more : (t : List ℕ) (i : ℕ) → i < length t → F t ≡ F (drop i t) → g (getD t i 0) (drop (i + 1) t) ≡ true → F t ≡ F (drop (i + 1) t)
-  more t i h e q = e ∙ step t i h ∙ ap (λ (b : Bool). b && F (drop (i + 1) t)) q
-
-  pub fails : (t : List ℕ) (i : ℕ) → i < length t → F t ≡ F (drop i t) → g (getD t i 0) (drop (i + 1) t) ≡ false → false ≡ F t
-  fails t i h e q = sym (e ∙ step t i h ∙ ap (λ (b : Bool). b && F (drop (i + 1) t)) q)
-
-  pub done : (t : List ℕ) (i : ℕ) → length t ≤ i → F t ≡ F (drop i t) → true ≡ F t
-  done t i h e = sym (e ∙ ap F (drop-of-length-le t h) ∙ nil)
 
   -- without a branch: what was seen, and what is still to come
   pub gather : (t : List ℕ) (i : ℕ) (ok : Bool) → i < length t → F t ≡ (ok && F (drop i t)) → F t ≡ (ok && g (getD t i 0) (drop (i + 1) t) && F (drop (i + 1) t))
@@ -45,6 +38,21 @@ zero-nil = refl
 pub zero-cons : (x : ℕ) (t : List ℕ) → allZero (x ∷ t) ≡ (isZero x t && allZero t)
 unfolding every
 zero-cons x t = and-is (eqb x 0) (allZero t)
+
+-- the bits of two numbers together
+zero-both : (a b : ℕ) → (eqb a 0 && eqb b 0) ≡ eqb (bitOr a b) 0
+zero-both a b = go (eqb a 0) (eqb b 0) refl refl
+  where
+    sum : bitOr a b + bitAnd a b ≡ a + b
+    sum = or-add-and a b
+
+    go : (p q : Bool) → eqb a 0 ≡ p → eqb b 0 ≡ q → (eqb a 0 && eqb b 0) ≡ eqb (bitOr a b) 0
+    go true true x y = rw (x, y) (sym (eq-eqb (bitOr a b) 0 (omega (arith, sum, eqb-true a 0 x, eqb-true b 0 y))))
+    go true false x y = rw (x, y) (sym (ne-eqb (bitOr a b) 0 (λ e. eqb-false b 0 y (omega (arith, e, sum, and-le-l a b)))))
+    go false q x y = rw x (sym (ne-eqb (bitOr a b) 0 (λ e. eqb-false a 0 x (omega (arith, e, sum, and-le-r a b)))))
+
+pub zero-more : (t : List ℕ) (i bits : ℕ) → i < length t → allZero t ≡ (eqb bits 0 && allZero (drop i t)) → allZero t ≡ (eqb (bitOr bits (getD t i 0)) 0 && allZero (drop (i + 1) t))
+zero-more t i bits h e = gather allZero isZero zero-nil zero-cons t i (eqb bits 0) h e ∙ ap (λ (b : Bool). b && allZero (drop (i + 1) t)) (zero-both bits (getD t i 0))
 
 -- ---- a number that is not there
 
@@ -67,23 +75,10 @@ pub lacks-cons : (x y : ℕ) (t : List ℕ) → lacks x (y ∷ t) ≡ (isNot x y
 unfolding has any
 lacks-cons x y t = not-or (eqb y x) (has x t)
 
--- ---- distinct numbers
-
-pub distinct-nil : distinct [] ≡ true
-unfolding distinct
-distinct-nil = refl
-
-pub distinct-cons : (x : ℕ) (t : List ℕ) → distinct (x ∷ t) ≡ (lacks x t && distinct t)
-unfolding distinct
-distinct-cons x t = and-is (lacks x t) (distinct t)
-
 -- ---- the rest of a list, lent as a part
 
 pub rest-is : (t : List ℕ) (a : ℕ) → take (length t - a) (drop a t) ≡ drop a t
 rest-is t a = take-all (length t - a) (drop a t) (omega (arith, length-drop a t))
-
-pub on-rest : (F : List ℕ → Bool) (t : List ℕ) (a : ℕ) (r v : Bool) → r ≡ F (take (length t - a) (drop a t)) → r ≡ v → F (drop a t) ≡ v
-on-rest F t a r v e q = ap F (sym (rest-is t a)) ∙ sym e ∙ q
 
 -- what is read past the end
 pub none-at : (t : List ℕ) (i : ℕ) → length t ≤ i → 0 ≡ getD t i 0

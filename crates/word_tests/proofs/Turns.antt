@@ -4,7 +4,7 @@ use mathlib.Core.Path.{_≡_, refl, ap, sym, _∙_}
 use mathlib.Core.List.{List}
 use mathlib.Core.Bool.{Bool, true, false, _&&_, _||_}
 use native.Mathlib.Omega.{arith}
-use borrow.Author.Tests.{le-leb, lt-leb, leb-true}
+use borrow.Author.Tests.{le-leb, lt-leb, leb-true, eq-eqb, ne-eqb}
 use lib.Dec.{eqb, leb}
 use lib.ListN.{length, take, drop, length-drop}
 use lib.Seq.{drop-drop}
@@ -47,6 +47,20 @@ module _ (ok : List ℕ → Bool) (lt : List ℕ → List ℕ → Bool) (w : ℕ
         let p' : r ≡ ok (take w t) = p ∙ ap (λ (u : ℕ). ok (take u t)) e in
         let s' : o ≡ lt t (drop w t) = s ∙ ap (lt t) (rest-is t v ∙ ap (λ (u : ℕ). drop u t) e) in
         rw (l, p', s')
+
+    -- the same by branches: the row is bad; it is good and the last; it is good, and o tells whether it is below the next
+    module _ (n : ℕ) (t : List ℕ) (r : Bool) (h : v ≤ length t) (p : r ≡ ok (take v t)) where
+      abbrev next : Bool
+      next = lt t (take (length t - v) (drop v t))
+
+      pub first-bad : r ≡ false → false ≡ firstOk ok lt w n t
+      first-bad q = ap (λ (b : Bool). b && (eqb n 1 || next)) (sym q) ∙ first-is n t r next h p refl
+
+      pub first-last : r ≡ true → n ≡ 1 → true ≡ firstOk ok lt w n t
+      first-last q one = rw (q, eq-eqb n 1 one) at (first-is n t r next h p refl)
+
+      pub first-next : (o : Bool) → r ≡ true → (n ≡ 1 → ⊥) → o ≡ next → o ≡ firstOk ok lt w n t
+      first-next o q more s = rw (q, ne-eqb n 1 more) at (first-is n t r o h p s)
 
   first-wide : (n : ℕ) (t : List ℕ) → firstOk ok lt w n t ≡ true → w ≤ length t
   unfolding firstOk allPass anyPass

@@ -37,6 +37,10 @@ between a e t = take (e - a) (drop a t)
 abbrev pub allZero : List ℕ → Bool
 allZero = every (λ x. eqb x 0)
 
+-- how many marks tell ids apart
+abbrev pub markCount : ℕ
+markCount = 512
+
 -- ---- tables
 
 -- the first word rises; or, of rows in pairs, it is the same and the second rises

@@ -5,12 +5,10 @@ ghost use Prim.Native.Nat.{_+_};
 ghost use lib.ListN.{length};
 ghost use Rattle.rules.specs.Lists.{has, distinct};
 ghost use Rattle.rules.specs.WellFormed.{within};
-ghost use Rattle.word_tests.specs.Tests.{at, allZero, rises, idsOk};
+ghost use Rattle.word_tests.specs.Tests.{at, allZero, markCount, rises, idsOk};
 
-// From as many ids on the marks are faster.
-const FEW: usize = 8;
-
-const MARKS: usize = 512;
+// How many marks tell ids apart.
+pub const MARKS: usize = 512;
 
 pub fn inside(low: u64, high: u64, x: u64) -> bool
     ensures { λ r. ⌜ r ≡ within low high x ⌝ }
@@ -18,16 +16,17 @@ pub fn inside(low: u64, high: u64, x: u64) -> bool
     (low <= x) & (x <= high)
 }
 
+// All bits together: one operation to a word.
 pub fn all_zero(t: &[u64]) -> bool
     ensures { λ r. ⌜ r ≡ allZero (now (t .entry)) ⌝ }
 {
-    let mut ok = true;
+    let mut bits: u64 = 0;
     let mut i = 0;
     while i < t.len() {
-        ok = ok & (t[i] == 0);
+        bits = bits | t[i];
         i += 1;
     }
-    ok
+    bits == 0
 }
 
 fn lacking(x: u64, t: &[u64]) -> bool
@@ -42,21 +41,6 @@ fn lacking(x: u64, t: &[u64]) -> bool
     ok
 }
 
-// Each id against those after it: the fastest where they are few.
-fn distinct_by_pairs(t: &[u64]) -> bool
-    ensures { λ r. ⌜ r ≡ distinct (now (t .entry)) ⌝ }
-{
-    let mut i = 0;
-    while i < t.len() {
-        let x = t[i];
-        i += 1;
-        if !lacking(x, &t[i..]) {
-            return false;
-        }
-    }
-    true
-}
-
 // Asked only of an id whose mark is taken.
 fn is_new(marked: bool, x: u64, rest: &[u64]) -> bool
     ensures { λ r. ⌜ r ≡ (not marked || not (has x (now (rest .entry)))) ⌝ }
@@ -67,37 +51,29 @@ fn is_new(marked: bool, x: u64, rest: &[u64]) -> bool
     true
 }
 
-// An id's mark is its last nine bits: each id is held against those after it only where one of them has its mark.
-fn distinct_by_marks(t: &[u64]) -> bool
+// An id's mark is at its last nine bits: each id is held against those after it only where one of them has set the mark to this
+// stamp. So the same marks serve list after list, each with a stamp of its own; what they held before is never wrong.
+fn distinct_marking(marks: &mut [u8], stamp: u8, t: &[u64]) -> bool
+    requires { ⌜ length (now marks) ≡ markCount ⌝ }
     ensures { λ r. ⌜ r ≡ distinct (now (t .entry)) ⌝ }
 {
-    let mut marks = [false; MARKS];
     let mut i = t.len();
     while 0 < i {
         let rest = i;
         i -= 1;
         let x = t[i];
         let mark = (x % 512) as usize;
-        if !is_new(marks[mark], x, &t[rest..]) {
+        if !is_new(marks[mark] == stamp, x, &t[rest..]) {
             return false;
         }
-        marks[mark] = true;
+        marks[mark] = stamp;
     }
     true
 }
 
-fn all_distinct(t: &[u64]) -> bool
-    ensures { λ r. ⌜ r ≡ distinct (now (t .entry)) ⌝ }
-{
-    if t.len() < FEW {
-        return distinct_by_pairs(t);
-    }
-    distinct_by_marks(t)
-}
-
 // A count within cap, ids that differ, and zeros after them.
-pub fn ids_ok(cap: usize, t: &[u64]) -> bool
-    requires { ⌜ length (now t) ≡ 1 + cap ⌝ }
+pub fn ids_ok(marks: &mut [u8], stamp: u8, cap: usize, t: &[u64]) -> bool
+    requires { ⌜ (length (now marks) ≡ markCount) × (length (now t) ≡ 1 + cap) ⌝ }
     ensures { λ r. ⌜ r ≡ idsOk cap (now (t .entry)) ⌝ }
 {
     let n = t[0] as usize;
@@ -105,7 +81,7 @@ pub fn ids_ok(cap: usize, t: &[u64]) -> bool
         return false;
     }
     let e = 1 + n;
-    all_distinct(&t[1..e]) & all_zero(&t[e..])
+    distinct_marking(marks, stamp, &t[1..e]) & all_zero(&t[e..])
 }
 
 // A word, and 0 where there is none.

@@ -17,13 +17,13 @@ returns-3 : tie.Need-returns-3
 returns-3 c = λ ws h. members-short _ ws _ _ (c .before .before .word .ensures ws h) (omega (arith, total h))
 
 slice-aggregate-members-end : tie.Need-slice-aggregate-members-end
-slice-aggregate-members-end c = sym (length-take-le _ (c .before .before .before .before .before .before .before .args .row .now) (omega (arith, c .before .before .before .before .before .before .before .pre)))
+slice-aggregate-members-end c = sym (length-take-le _ (c .before .before .before .before .before .before .before .before .args .row .now) (omega (arith, c .before .before .before .before .before .before .before .before .pre .0)))
 
 members-end-requires : tie.Need-members-end-requires
-members-end-requires c κs = (length-take-le _ (c .before .before .before .before .before .before .before .args .row .now) (omega (arith, c .before .before .before .before .before .before .before .pre)), omega arith, omega arith)
+members-end-requires c κs = (length-take-le _ (c .before .before .before .before .before .before .before .before .before .args .row .now) (omega (arith, c .before .before .before .before .before .before .before .before .before .pre .0)), omega arith, omega arith, c .before .before .before .before .before .before .before .before .before .pre .1)
 
 returns-4 : tie.Need-returns-4
-returns-4 c = λ ws h. c .before .before .members-end .ensures ws h (c .before .before .before .before .before .before .word .ensures ws h)
+returns-4 c = λ ws h. c .before .before .before .before .members-end .ensures ws h (c .before .before .before .before .before .before .before .before .before .word .ensures ws h)
 
 pub committee-end-spec : {M : Type 1} → statement M
 committee-end-spec =
@@ -40,5 +40,6 @@ committee-end-spec =
     (λ c. search needs)
     slice-aggregate-members-end
     members-end-requires
+    (λ c. search needs)
     (λ c. search needs)
     returns-4)

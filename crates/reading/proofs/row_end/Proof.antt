@@ -6,11 +6,11 @@ use borrow.Author.Needs.{needs}
 use Rattle.reading.proofs.row_end.Statement.{statement}
 use Rattle.reading.proofs.row_end.Tie as tie
 
-committee-end-requires : tie.Need-committee-end-requires
-committee-end-requires c κs = c .before .before .before .before .before .pre .1 ∙ ap widthOf (c .before .enum-told2 .given .1)
+lone-committee-end-requires : tie.Need-lone-committee-end-requires
+lone-committee-end-requires c κs = c .before .before .before .before .before .pre .1 ∙ ap widthOf (c .before .enum-told2 .given .1)
 
 returns-2 : tie.Need-returns-2
-returns-2 c = λ ws h. let a = c .before .before .before .before .before .before .before .before .args in subst⁻¹ (λ (k : RowKind). TellsRow k (a .last) ws (a .at) (c .before .before .committee-end .result)) (c .before .before .before .before .enum-told2 .given .1) (c .before .before .committee-end .ensures ws h)
+returns-2 c = λ ws h. let a = c .before .before .before .before .before .before .before .before .args in subst⁻¹ (λ (k : RowKind). TellsRow k (a .last) ws (a .at) (c .before .before .lone-committee-end .result)) (c .before .before .before .before .enum-told2 .given .1) (c .before .before .lone-committee-end .ensures ws h)
 
 pub row-end-spec : {M : Type 1} → statement M
 row-end-spec =
@@ -19,7 +19,7 @@ row-end-spec =
     (λ c. search needs)
     (λ c κs. search needs)
     (λ c. search needs)
-    committee-end-requires
+    lone-committee-end-requires
     (λ c. search needs)
     (λ c κs. search needs)
     (λ c. search needs)

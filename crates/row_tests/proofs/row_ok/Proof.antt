@@ -13,8 +13,8 @@ machine-ok-requires c κs = c .before .before .before .pre ∙ ap widthOf (c .en
 enum-told-2 : tie.Need-enum-told-2
 enum-told-2 c = search needs
 
-committee-ok-requires : tie.Need-committee-ok-requires
-committee-ok-requires c κs = c .before .before .before .pre ∙ ap widthOf (c .enum-told2 .given .1)
+lone-committee-ok-requires : tie.Need-lone-committee-ok-requires
+lone-committee-ok-requires c κs = c .before .before .before .pre ∙ ap widthOf (c .enum-told2 .given .1)
 
 enum-told-3 : tie.Need-enum-told-3
 enum-told-3 c = search needs
@@ -56,7 +56,7 @@ row-ok-spec =
     enum-told
     machine-ok-requires
     enum-told-2
-    committee-ok-requires
+    lone-committee-ok-requires
     enum-told-3
     boundary-ok-requires
     enum-told-4

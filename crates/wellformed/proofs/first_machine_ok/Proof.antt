@@ -1,8 +1,9 @@
 use mathlib.Core.Path.{refl, sym}
+use borrow.Author.Needs.{needs}
+use borrow.Author.Tests.{not-true, not-false}
 use lib.Seq.{length-take-le}
 use Rattle.board.specs.Layout.{machineWidth}
-use Rattle.word_tests.proofs.Turns.{first-short, first-is}
-use borrow.Author.Needs.{needs}
+use Rattle.word_tests.proofs.Turns.{first-short, first-bad, first-last, first-next}
 use Rattle.wellformed.proofs.first_machine_ok.Statement.{statement}
 use Rattle.wellformed.proofs.first_machine_ok.Tie as tie
 
@@ -16,7 +17,13 @@ machine-ok-requires : tie.Need-machine-ok-requires
 machine-ok-requires c κs = length-take-le machineWidth (c .before .before .before .args .t .now) (c .before .if1 .left)
 
 returns-2 : tie.Need-returns-2
-returns-2 c = first-is _ _ _ _ refl _ (c .before .before .before .before .before .before .args .t .now) _ _ (c .before .before .before .before .if1 .left) (c .before .before .machine-ok .ensures) (c .rises .ensures)
+returns-2 c = first-bad _ _ _ _ refl _ (c .before .before .before .before .before .args .t .now) _ (c .before .before .before .if1 .left) (c .before .machine-ok .ensures) (not-true _ (c .if2 .taken))
+
+returns-3 : tie.Need-returns-3
+returns-3 c = first-last _ _ _ _ refl _ (c .before .before .before .before .before .before .args .t .now) _ (c .before .before .before .before .if1 .left) (c .before .before .machine-ok .ensures) (not-false _ (c .before .if2 .left)) (c .if3 .taken)
+
+returns-4 : tie.Need-returns-4
+returns-4 c = first-next _ _ _ _ refl _ (c .before .before .before .before .before .before .before .before .args .t .now) _ (c .before .before .before .before .before .before .if1 .left) (c .before .before .before .before .machine-ok .ensures) _ (not-false _ (c .before .before .before .if2 .left)) (c .before .before .if3 .left) (c .rises .ensures)
 
 pub first-machine-ok-spec : {M : Type 1} → statement M
 first-machine-ok-spec =
@@ -25,8 +32,10 @@ first-machine-ok-spec =
     returns
     slice-aggregate-machine-ok
     machine-ok-requires
+    returns-2
+    returns-3
     (λ c. search needs)
     (λ c. search needs)
     (λ c. search needs)
     (λ c κs. search needs)
-    returns-2)
+    returns-4)
