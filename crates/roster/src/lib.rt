@@ -1,4 +1,5 @@
 // The door of the library: functions of numbers and slices, for C and Rust to call.
+use types::Answer;
 use types::Outcome;
 use types::ShardId;
 use types::ValidatorId;
@@ -81,11 +82,23 @@ fn tell(told: Outcome, results: &mut [u64; 2]) -> u64
     answer.number()
 }
 
+// What a step tells of words that hold no well-formed board.
+fn refuse(results: &mut [u64; 2]) -> u64
+    ensures { λ r. ⌜ (r ≡ numberOf Answer.NotWellFormed) × (now (results .exit) ≡ 0 ∷ 0 ∷ []) ⌝ }
+{
+    *results = [0, 0];
+    let answer = Answer::NotWellFormed;
+    answer.number()
+}
+
 #[no_mangle]
 pub extern "C" fn roster_tick(board: &mut [u64], results: &mut [u64; 2]) -> u64
     ensures { λ r. ⌜ ExportedStep tick (now (board .entry)) (now (board .exit)) r (now (results .exit)) ⌝ }
 {
-    let told = lifecycle::tick(board);
+    if !wellformed::well_formed(board) {
+        return refuse(results);
+    }
+    let told = lifecycle::tick_held(board);
     tell(told, results)
 }
 
@@ -93,7 +106,10 @@ pub extern "C" fn roster_tick(board: &mut [u64], results: &mut [u64; 2]) -> u64
 pub extern "C" fn roster_time_out(board: &mut [u64], results: &mut [u64; 2]) -> u64
     ensures { λ r. ⌜ ExportedStep timeOut (now (board .entry)) (now (board .exit)) r (now (results .exit)) ⌝ }
 {
-    let told = lifecycle::auto_ready_timeout(board);
+    if !wellformed::well_formed(board) {
+        return refuse(results);
+    }
+    let told = lifecycle::auto_ready_timeout_held(board);
     tell(told, results)
 }
 
@@ -106,7 +122,10 @@ pub extern "C" fn roster_mark_seat_ready(
 ) -> u64
     ensures { λ r. ⌜ ExportedStep (markSeatReady target machine) (now (board .entry)) (now (board .exit)) r (now (results .exit)) ⌝ }
 {
-    let told = marks::mark_seat_ready(board, ShardId(target), ValidatorId(machine));
+    if !wellformed::well_formed(board) {
+        return refuse(results);
+    }
+    let told = marks::mark_seat_ready_held(board, ShardId(target), ValidatorId(machine));
     tell(told, results)
 }
 
@@ -119,7 +138,10 @@ pub extern "C" fn roster_mark_quiet(
 ) -> u64
     ensures { λ r. ⌜ ExportedStep (markQuiet target side) (now (board .entry)) (now (board .exit)) r (now (results .exit)) ⌝ }
 {
-    let told = marks::mark_quiet(board, ShardId(target), side);
+    if !wellformed::well_formed(board) {
+        return refuse(results);
+    }
+    let told = marks::mark_quiet_held(board, ShardId(target), side);
     tell(told, results)
 }
 
@@ -132,7 +154,14 @@ pub extern "C" fn roster_leave(
 ) -> u64
     ensures { λ r. ⌜ ExportedStep (leave machine (now (draws .entry))) (now (board .entry)) (now (board .exit)) r (now (results .exit)) ⌝ }
 {
-    let told = withdrawals::deactivate_to_insufficient_stake(board, ValidatorId(machine), draws);
+    if !wellformed::well_formed(board) {
+        return refuse(results);
+    }
+    let told = withdrawals::deactivate_to_insufficient_stake_held(
+        board,
+        ValidatorId(machine),
+        draws,
+    );
     tell(told, results)
 }
 
@@ -146,7 +175,10 @@ pub extern "C" fn roster_rotate(
 ) -> u64
     ensures { λ r. ⌜ ExportedStep (rotate shard machine (now (draws .entry))) (now (board .entry)) (now (board .exit)) r (now (results .exit)) ⌝ }
 {
-    let told = committee::rotate::run_shuffle_step(
+    if !wellformed::well_formed(board) {
+        return refuse(results);
+    }
+    let told = committee::rotate::run_shuffle_step_held(
         board,
         ShardId(shard),
         ValidatorId(machine),
@@ -159,7 +191,10 @@ pub extern "C" fn roster_rotate(
 pub extern "C" fn roster_resolve(board: &mut [u64], results: &mut [u64; 2]) -> u64
     ensures { λ r. ⌜ ExportedStep resolve (now (board .entry)) (now (board .exit)) r (now (results .exit)) ⌝ }
 {
-    let told = resolving::resolve_pending_rotations(board);
+    if !wellformed::well_formed(board) {
+        return refuse(results);
+    }
+    let told = resolving::resolve_pending_rotations_held(board);
     tell(told, results)
 }
 
@@ -167,7 +202,10 @@ pub extern "C" fn roster_resolve(board: &mut [u64], results: &mut [u64; 2]) -> u
 pub extern "C" fn roster_admit_split(board: &mut [u64], target: u64, results: &mut [u64; 2]) -> u64
     ensures { λ r. ⌜ ExportedStep (admitSplit target) (now (board .entry)) (now (board .exit)) r (now (results .exit)) ⌝ }
 {
-    let told = admissions::admit_split(board, ShardId(target));
+    if !wellformed::well_formed(board) {
+        return refuse(results);
+    }
+    let told = admissions::admit_split_held(board, ShardId(target));
     tell(told, results)
 }
 
@@ -180,7 +218,10 @@ pub extern "C" fn roster_admit_merge(
 ) -> u64
     ensures { λ r. ⌜ ExportedStep (admitMerge target (now (draws .entry))) (now (board .entry)) (now (board .exit)) r (now (results .exit)) ⌝ }
 {
-    let told = admissions::admit_merge(board, ShardId(target), draws);
+    if !wellformed::well_formed(board) {
+        return refuse(results);
+    }
+    let told = admissions::admit_merge_held(board, ShardId(target), draws);
     tell(told, results)
 }
 
@@ -193,7 +234,10 @@ pub extern "C" fn roster_draw_cohort(
 ) -> u64
     ensures { λ r. ⌜ ExportedStep (drawCohort target (now (draws .entry))) (now (board .entry)) (now (board .exit)) r (now (results .exit)) ⌝ }
 {
-    let told = cohorts::draw::draw_split_cohort(board, ShardId(target), draws);
+    if !wellformed::well_formed(board) {
+        return refuse(results);
+    }
+    let told = cohorts::draw::draw_split_cohort_held(board, ShardId(target), draws);
     tell(told, results)
 }
 
@@ -201,7 +245,10 @@ pub extern "C" fn roster_draw_cohort(
 pub extern "C" fn roster_lapse(board: &mut [u64], target: u64, results: &mut [u64; 2]) -> u64
     ensures { λ r. ⌜ ExportedStep (lapse target) (now (board .entry)) (now (board .exit)) r (now (results .exit)) ⌝ }
 {
-    let told = lapses::lapse_split(board, ShardId(target));
+    if !wellformed::well_formed(board) {
+        return refuse(results);
+    }
+    let told = lapses::lapse_split_held(board, ShardId(target));
     tell(told, results)
 }
 
@@ -213,7 +260,10 @@ pub extern "C" fn roster_schedule_splits(
 ) -> u64
     ensures { λ r. ⌜ ExportedStep (scheduleSplits (now (draws .entry))) (now (board .entry)) (now (board .exit)) r (now (results .exit)) ⌝ }
 {
-    let told = schedule_splits::schedule_ready_splits(board, draws);
+    if !wellformed::well_formed(board) {
+        return refuse(results);
+    }
+    let told = schedule_splits::schedule_ready_splits_held(board, draws);
     tell(told, results)
 }
 
@@ -221,7 +271,10 @@ pub extern "C" fn roster_schedule_splits(
 pub extern "C" fn roster_schedule_merges(board: &mut [u64], results: &mut [u64; 2]) -> u64
     ensures { λ r. ⌜ ExportedStep scheduleMerges (now (board .entry)) (now (board .exit)) r (now (results .exit)) ⌝ }
 {
-    let told = schedule_merges::schedule_ready_merges(board);
+    if !wellformed::well_formed(board) {
+        return refuse(results);
+    }
+    let told = schedule_merges::schedule_ready_merges_held(board);
     tell(told, results)
 }
 
@@ -229,7 +282,10 @@ pub extern "C" fn roster_schedule_merges(board: &mut [u64], results: &mut [u64; 
 pub extern "C" fn roster_cut_splits(board: &mut [u64], results: &mut [u64; 2]) -> u64
     ensures { λ r. ⌜ ExportedStep cutSplits (now (board .entry)) (now (board .exit)) r (now (results .exit)) ⌝ }
 {
-    let told = cut_splits::apply_scheduled_splits(board);
+    if !wellformed::well_formed(board) {
+        return refuse(results);
+    }
+    let told = cut_splits::apply_scheduled_splits_held(board);
     tell(told, results)
 }
 
@@ -237,7 +293,10 @@ pub extern "C" fn roster_cut_splits(board: &mut [u64], results: &mut [u64; 2]) -
 pub extern "C" fn roster_cut_merges(board: &mut [u64], results: &mut [u64; 2]) -> u64
     ensures { λ r. ⌜ ExportedStep cutMerges (now (board .entry)) (now (board .exit)) r (now (results .exit)) ⌝ }
 {
-    let told = cut_merges::apply_scheduled_merges(board);
+    if !wellformed::well_formed(board) {
+        return refuse(results);
+    }
+    let told = cut_merges::apply_scheduled_merges_held(board);
     tell(told, results)
 }
 
