@@ -21,7 +21,6 @@ ghost use Rattle.rules.specs.WellFormed.{wellFormed};
 ghost use Rattle.rules.specs.Reshapes.{admitSplit, admitMerge};
 ghost use Rattle.board.specs.Layout.{boardSize};
 ghost use Rattle.board.specs.Held.{Holds};
-ghost use Rattle.board.specs.Permitted.{PermittedStep};
 ghost use Rattle.steps.specs.Inner.{Step, Steps};
 ghost use Rattle.keepers.specs.Kept.{keepersRoom};
 ghost use Rattle.admissions.specs.Granted.{admitsKept, mergeGranted};
@@ -46,15 +45,6 @@ pub fn admit_split_held(board: &mut [u64], target: ShardId) -> Outcome
         }
         Admission::Refused(answer) => steps::refusal(answer),
     }
-}
-
-pub fn admit_split(board: &mut [u64], target: ShardId) -> Outcome
-    ensures { λ r. ⌜ PermittedStep (admitSplit (target .0)) (now (board .entry)) (now (board .exit)) r ⌝ }
-{
-    if wellformed::well_formed(board) {
-        return admit_split_held(board, target);
-    }
-    steps::refusal(Answer::NotWellFormed)
 }
 
 // ---- A merge
@@ -106,13 +96,4 @@ pub fn admit_merge_held(board: &mut [u64], target: ShardId, draws: &[u64]) -> Ou
         Admission::Granted => merge_granted(board, target, draws),
         Admission::Refused(answer) => steps::refusal(answer),
     }
-}
-
-pub fn admit_merge(board: &mut [u64], target: ShardId, draws: &[u64]) -> Outcome
-    ensures { λ r. ⌜ PermittedStep (admitMerge (target .0) (now (draws .entry))) (now (board .entry)) (now (board .exit)) r ⌝ }
-{
-    if wellformed::well_formed(board) {
-        return admit_merge_held(board, target, draws);
-    }
-    steps::refusal(Answer::NotWellFormed)
 }

@@ -25,7 +25,6 @@ ghost use Rattle.rules.specs.Moves.{poolOf, mayJoin};
 ghost use Rattle.rules.specs.Reshapes.{awaitsCohort, watchAll, drawCohort};
 ghost use Rattle.board.specs.Layout.{boardSize};
 ghost use Rattle.board.specs.Held.{Holds, noCommittee, noReshape};
-ghost use Rattle.board.specs.Permitted.{PermittedStep};
 ghost use Rattle.steps.specs.Inner.{outcome, Step, Steps};
 ghost use Rattle.cohorts.specs.Awaiting.{Awaiting};
 
@@ -176,13 +175,4 @@ pub fn draw_split_cohort_held(board: &mut [u64], target: ShardId, draws: &[u64])
     }
     let mut ids: [u64; MOST_MACHINES] = [0; MOST_MACHINES];
     draw_for(board, i, target, draws, &mut ids)
-}
-
-pub fn draw_split_cohort(board: &mut [u64], target: ShardId, draws: &[u64]) -> Outcome
-    ensures { λ r. ⌜ PermittedStep (drawCohort (target .0) (now (draws .entry))) (now (board .entry)) (now (board .exit)) r ⌝ }
-{
-    if wellformed::well_formed(board) {
-        return draw_split_cohort_held(board, target, draws);
-    }
-    steps::refusal(Answer::NotWellFormed)
 }

@@ -28,7 +28,6 @@ ghost use Rattle.rules.specs.Moves.{mayJoin};
 ghost use Rattle.rules.specs.Places.{mayRotate, victimFit, rotateTurn, rotate};
 ghost use Rattle.board.specs.Layout.{boardSize};
 ghost use Rattle.board.specs.Held.{Holds, noMachine};
-ghost use Rattle.board.specs.Permitted.{PermittedStep};
 ghost use Rattle.pool.specs.Told.{TellsTurn};
 ghost use Rattle.steps.specs.Inner.{Steps};
 ghost use Rattle.committee.specs.Opened.{RowFor, opened};
@@ -171,18 +170,4 @@ pub fn run_shuffle_step_held(
     }
     let turned = rotate_turn(board, shard, machine, draws, Reader::start());
     turned.told()
-}
-
-pub fn run_shuffle_step(
-    board: &mut [u64],
-    shard: ShardId,
-    machine: ValidatorId,
-    draws: &[u64],
-) -> Outcome
-    ensures { λ r. ⌜ PermittedStep (rotate (shard .0) (machine .0) (now (draws .entry))) (now (board .entry)) (now (board .exit)) r ⌝ }
-{
-    if wellformed::well_formed(board) {
-        return run_shuffle_step_held(board, shard, machine, draws);
-    }
-    steps::refusal(Answer::NotWellFormed)
 }

@@ -21,7 +21,6 @@ ghost use Rattle.rules.specs.Cut as cut;
 ghost use Rattle.rules.specs.Cut.{recast, fits, cutMerge, cutMerges};
 ghost use Rattle.board.specs.Layout.{boardSize};
 ghost use Rattle.board.specs.Held.{Holds, noReshape};
-ghost use Rattle.board.specs.Permitted.{PermittedStep};
 ghost use Rattle.pool.specs.Told.{TellsTurn};
 ghost use Rattle.steps.specs.Inner.{Steps};
 ghost use Rattle.arriving.specs.Coming.{reshapeIn};
@@ -116,13 +115,4 @@ pub fn apply_scheduled_merges_held(board: &mut [u64]) -> Outcome
         i += 1;
     }
     steps::done(handled, 0)
-}
-
-pub fn apply_scheduled_merges(board: &mut [u64]) -> Outcome
-    ensures { λ r. ⌜ PermittedStep cutMerges (now (board .entry)) (now (board .exit)) r ⌝ }
-{
-    if wellformed::well_formed(board) {
-        return apply_scheduled_merges_held(board);
-    }
-    steps::refusal(Answer::NotWellFormed)
 }

@@ -22,7 +22,6 @@ ghost use Rattle.rules.specs.WellFormed.{isWord, wellFormed};
 ghost use Rattle.rules.specs.Cut.{recast, fits, cutSplit, cutSplits};
 ghost use Rattle.board.specs.Layout.{boardSize};
 ghost use Rattle.board.specs.Held.{Holds, noReshape};
-ghost use Rattle.board.specs.Permitted.{PermittedStep};
 ghost use Rattle.pool.specs.Told.{TellsTurn};
 ghost use Rattle.steps.specs.Inner.{Steps};
 ghost use Rattle.arriving.specs.Coming.{reshapeIn};
@@ -113,13 +112,4 @@ pub fn apply_scheduled_splits_held(board: &mut [u64]) -> Outcome
         i += 1;
     }
     steps::done(handled, 0)
-}
-
-pub fn apply_scheduled_splits(board: &mut [u64]) -> Outcome
-    ensures { λ r. ⌜ PermittedStep cutSplits (now (board .entry)) (now (board .exit)) r ⌝ }
-{
-    if wellformed::well_formed(board) {
-        return apply_scheduled_splits_held(board);
-    }
-    steps::refusal(Answer::NotWellFormed)
 }

@@ -23,7 +23,6 @@ ghost use Rattle.rules.specs.Moves.{says, place, forAll, pooledFrom};
 ghost use Rattle.rules.specs.Reshapes.{released, lapse};
 ghost use Rattle.board.specs.Layout.{boardSize};
 ghost use Rattle.board.specs.Held.{Holds, noReshape};
-ghost use Rattle.board.specs.Permitted.{PermittedStep};
 ghost use Rattle.steps.specs.Inner.{Steps};
 
 // The machine is pooled, where it observes the target: 1 for one that is.
@@ -100,13 +99,4 @@ pub fn lapse_split_held(board: &mut [u64], target: ShardId) -> Outcome
     }
     let n = release_cohort(board, target, i);
     steps::done(n, 0)
-}
-
-pub fn lapse_split(board: &mut [u64], target: ShardId) -> Outcome
-    ensures { λ r. ⌜ PermittedStep (lapse (target .0)) (now (board .entry)) (now (board .exit)) r ⌝ }
-{
-    if wellformed::well_formed(board) {
-        return lapse_split_held(board, target);
-    }
-    steps::refusal(Answer::NotWellFormed)
 }

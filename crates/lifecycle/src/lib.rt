@@ -15,7 +15,6 @@ ghost use Rattle.rules.specs.Board.{Board, mostMachines, onMachines};
 ghost use Rattle.rules.specs.Lists.{bitOf};
 ghost use Rattle.board.specs.Held.{Holds, noMachine};
 ghost use Rattle.board.specs.Layout.{boardSize};
-ghost use Rattle.board.specs.Permitted.{PermittedStep};
 ghost use Rattle.rules.specs.Places.{tick, timeOut};
 ghost use Rattle.lifecycle.specs.Ages.{aged};
 ghost use Rattle.steps.specs.Inner.{Steps};
@@ -32,15 +31,6 @@ pub fn tick_held(board: &mut [u64]) -> Outcome
     }
     settings::set_epoch(board, Epoch(e + 1));
     steps::done(1, 0)
-}
-
-pub fn tick(board: &mut [u64]) -> Outcome
-    ensures { λ r. ⌜ PermittedStep tick (now (board .entry)) (now (board .exit)) r ⌝ }
-{
-    if wellformed::well_formed(board) {
-        return tick_held(board);
-    }
-    steps::refusal(Answer::NotWellFormed)
 }
 
 // The machine at row i becomes ready where it is overdue: 1, else 0.
@@ -81,13 +71,4 @@ pub fn auto_ready_timeout_held(board: &mut [u64]) -> Outcome
         i += 1;
     }
     steps::done(k, 0)
-}
-
-pub fn auto_ready_timeout(board: &mut [u64]) -> Outcome
-    ensures { λ r. ⌜ PermittedStep timeOut (now (board .entry)) (now (board .exit)) r ⌝ }
-{
-    if wellformed::well_formed(board) {
-        return auto_ready_timeout_held(board);
-    }
-    steps::refusal(Answer::NotWellFormed)
 }

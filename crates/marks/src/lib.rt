@@ -19,7 +19,6 @@ ghost use Rattle.rules.specs.Reshapes.{readySeat, quieted, markSeatReady, markQ
 ghost use Rattle.board.specs.Layout.{boardSize};
 ghost use Rattle.board.specs.Held.{Holds, noReshape, noSeat};
 ghost use Rattle.board.specs.Leaves.{changeAt};
-ghost use Rattle.board.specs.Permitted.{PermittedStep};
 ghost use Rattle.steps.specs.Inner.{Steps};
 
 // ---- A side quiet
@@ -67,15 +66,6 @@ pub fn mark_quiet_held(board: &mut [u64], target: ShardId, side: u64) -> Outcome
     steps::done(1, 0)
 }
 
-pub fn mark_quiet(board: &mut [u64], target: ShardId, side: u64) -> Outcome
-    ensures { λ r. ⌜ PermittedStep (markQuiet (target .0) side) (now (board .entry)) (now (board .exit)) r ⌝ }
-{
-    if wellformed::well_formed(board) {
-        return mark_quiet_held(board, target, side);
-    }
-    steps::refusal(Answer::NotWellFormed)
-}
-
 // ---- A seat ready
 
 fn ready_seat(board: &mut [u64], i: usize, k: usize)
@@ -116,13 +106,4 @@ pub fn mark_seat_ready_held(board: &mut [u64], target: ShardId, machine: Validat
     }
     ready_seat(board, i, k);
     steps::done(1, 0)
-}
-
-pub fn mark_seat_ready(board: &mut [u64], target: ShardId, machine: ValidatorId) -> Outcome
-    ensures { λ r. ⌜ PermittedStep (markSeatReady (target .0) (machine .0)) (now (board .entry)) (now (board .exit)) r ⌝ }
-{
-    if wellformed::well_formed(board) {
-        return mark_seat_ready_held(board, target, machine);
-    }
-    steps::refusal(Answer::NotWellFormed)
 }

@@ -21,16 +21,16 @@ use Rattle.rules.proofs.KeptTables.{holds-at}
 use Rattle.rules.proofs.KeptRotations.{Rota-dropFirst}
 use Rattle.rules.proofs.KeptBoard.{good-of, of-good, on-rotations}
 use Rattle.tables.specs.Rows.{removeAt}
+use Rattle.tables.proofs.Bools.{and-is}
 use Rattle.tables.proofs.Keys.{at-is}
 use Rattle.board.specs.Held.{Holds, noCommittee, noRotation}
 use Rattle.board.proofs.Keyed.{committees-rise, rotations-rise}
-use Rattle.word_tests.proofs.Tests.{and-is}
 use Rattle.shards.proofs.Order.{rotation-goes}
 use Rattle.rows.proofs.Asked.{holds-none}
 
 pub resolved-is : (b : Board) (q : Rotation) (seated ready : Bool) → seated ≡ says (isSeatedOn (q .shard)) b (q .entrant) → ready ≡ says isReady b (q .entrant) → (seated && ready) ≡ isResolved b q
 unfolding isResolved
-resolved-is b q seated ready s r = rw (s, r) (sym (and-is _ _))
+resolved-is b q seated ready s r = rw (s, r) (and-is _ _)
 
 -- ---- the seats of the committee
 

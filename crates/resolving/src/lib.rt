@@ -7,7 +7,6 @@ use committee::reads;
 use committee::reads::Counted;
 use moves::Exit;
 use shards::rotations;
-use types::Answer;
 use types::Outcome;
 use types::ShardId;
 use types::ValidatorId;
@@ -22,7 +21,6 @@ ghost use Rattle.rules.specs.Places as rules;
 ghost use Rattle.rules.specs.Places.{isResolved, hasSeatsFree, resolved, resolve};
 ghost use Rattle.board.specs.Layout.{boardSize};
 ghost use Rattle.board.specs.Held.{Holds, noRotation};
-ghost use Rattle.board.specs.Permitted.{PermittedStep};
 ghost use Rattle.steps.specs.Inner.{Steps};
 ghost use Rattle.resolving.specs.Walked.{Marked, Turned};
 
@@ -134,13 +132,4 @@ pub fn resolve_pending_rotations_held(board: &mut [u64]) -> Outcome
     let marks = marks_of(board);
     let handled = close_marked(board, marks);
     steps::done(handled as u64, 0)
-}
-
-pub fn resolve_pending_rotations(board: &mut [u64]) -> Outcome
-    ensures { λ r. ⌜ PermittedStep resolve (now (board .entry)) (now (board .exit)) r ⌝ }
-{
-    if wellformed::well_formed(board) {
-        return resolve_pending_rotations_held(board);
-    }
-    steps::refusal(Answer::NotWellFormed)
 }

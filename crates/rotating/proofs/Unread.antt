@@ -10,8 +10,10 @@ use Rattle.types.specs.declared.Outcome.{Outcome}
 use Rattle.rules.specs.Calls as calls
 use Rattle.rules.specs.Places.{rotate}
 use Rattle.rules.proofs.Draws.{drawsOf, used-at-most-lent}
-use Rattle.board.specs.Permitted.{PermittedStep, refused, answered}
+use Rattle.board.specs.Permitted.{WellHeld, PermittedStep, refused, answered}
 use Rattle.board.proofs.Permits.{step-determined}
+use Rattle.steps.specs.Inner.{Steps}
+use Rattle.steps.proofs.Public.{step-answers}
 use Rattle.draw_readers.specs.declared.DrawReader.{DrawReader}
 use Rattle.rotating.specs.Rotated.{unread, drawsUsed}
 
@@ -22,10 +24,10 @@ past-the-end draws at h =
     drop-of-length-le draws here ∙ sym (drop-of-length-le draws further)
 
 -- a rotate on the part of the list that is lent on is one on the draws not yet read
-pub on-unread : (s m from at : ℕ) (draws before after : List ℕ) (o : Outcome) → drop from draws ≡ drop at draws
-    → PermittedStep (rotate s m (take (length draws - from) (drop from draws))) before after o → PermittedStep (rotate s m (drop at draws)) before after o
-on-unread s m from at draws before after o e =
-    subst (λ (ds : List ℕ). PermittedStep (rotate s m ds) before after o) (take-all (length draws - from) (drop from draws) (omega (arith, length-drop from draws)) ∙ e)
+pub on-unread : (s m from at : ℕ) (draws before after : List ℕ) (o : Outcome) → drop from draws ≡ drop at draws → WellHeld before
+    → Steps (rotate s m (take (length draws - from) (drop from draws))) before after o → PermittedStep (rotate s m (drop at draws)) before after o
+on-unread s m from at draws before after o e w f =
+    subst (λ (ds : List ℕ). PermittedStep (rotate s m ds) before after o) (take-all (length draws - from) (drop from draws) (omega (arith, length-drop from draws)) ∙ e) (step-answers _ before after o w f)
 
 pub used-most : (s m : ℕ) (draws before after : List ℕ) (o : Outcome) → PermittedStep (rotate s m draws) before after o → drawsUsed o ≤ length draws
 unfolding calls.answerTo drawsOf
@@ -36,7 +38,7 @@ used-most s m draws before after o (answered b h g q k) = omega (arith, ap draws
 pub moves-on : (s m at : ℕ) (draws before after : List ℕ) (o : Outcome) → at < 2 ^ 64 → length draws < 2 ^ 64 → PermittedStep (rotate s m (drop at draws)) before after o → at + drawsUsed o < 2 ^ 64
 moves-on s m at draws before after o h k p = omega (arith, length-drop at draws, used-most s m (drop at draws) before after o p)
 
--- what `rotate_reading` permits and what `run_shuffle_step` permits on the draws not yet read are one outcome, in the same words
+-- what `rotate_reading` permits and what a plain rotate permits on the draws not yet read are one outcome, in the same words
 pub same-as-plain : (s m : ℕ) (r : DrawReader) (before u w : List ℕ) (o p : Outcome) → PermittedStep (rotate s m (unread r)) before u o → PermittedStep (rotate s m (unread r)) before w p → (o ≡ p) × (u ≡ w)
 same-as-plain s m r = step-determined (rotate s m (unread r))
 

@@ -1,6 +1,7 @@
 // Rotate with its draws from a reader: the step on the draws that are not yet read, and the reader moved on by those it used.
 use committee::rotate;
 use draw_readers::DrawReader;
+use types::Answer;
 use types::Outcome;
 use types::ShardId;
 use types::ValidatorId;
@@ -33,7 +34,7 @@ fn unread_from(draws: &[u64], at: usize) -> usize
     at
 }
 
-// The work: the public step on the draws from a position on.
+// The work: the step on the draws from a position on.
 pub fn rotate_from(
     board: &mut [u64],
     shard: ShardId,
@@ -44,8 +45,14 @@ pub fn rotate_from(
     ensures { λ r. ⌜ PermittedStep (rotate (shard .0) (machine .0) (drop at (now (draws .entry)))) (now (board .entry)) (now (board .exit)) (r .outcome)
         × (r .at ≡ at + drawsUsed (r .outcome)) ⌝ }
 {
+    if !wellformed::well_formed(board) {
+        return RotatedAt {
+            outcome: steps::refusal(Answer::NotWellFormed),
+            at,
+        };
+    }
     let from = unread_from(draws, at);
-    let outcome = rotate::run_shuffle_step(board, shard, machine, &draws[from..]);
+    let outcome = rotate::run_shuffle_step_held(board, shard, machine, &draws[from..]);
     let used = outcome.draws_used as usize;
     RotatedAt {
         outcome,

@@ -19,7 +19,6 @@ ghost use Rattle.rules.specs.Turns.{batch};
 ghost use Rattle.rules.specs.Schedule.{mergeGate, scheduleMerge, scheduleMerges};
 ghost use Rattle.board.specs.Layout.{boardSize};
 ghost use Rattle.board.specs.Held.{Holds, noReshape};
-ghost use Rattle.board.specs.Permitted.{PermittedStep};
 ghost use Rattle.steps.specs.Inner.{Step, Steps};
 ghost use Rattle.pool.specs.Told.{TellsTurn};
 ghost use Rattle.batches.specs.Underway.{Within};
@@ -95,13 +94,4 @@ pub fn schedule_ready_merges_held(board: &mut [u64]) -> Outcome
     let mut targets = [0u64; 8];
     let n = batches::targets(board, Which::MergesToSchedule, &mut targets);
     in_turn(board, &targets[..n])
-}
-
-pub fn schedule_ready_merges(board: &mut [u64]) -> Outcome
-    ensures { λ r. ⌜ PermittedStep scheduleMerges (now (board .entry)) (now (board .exit)) r ⌝ }
-{
-    if wellformed::well_formed(board) {
-        return schedule_ready_merges_held(board);
-    }
-    steps::refusal(Answer::NotWellFormed)
 }

@@ -20,7 +20,6 @@ ghost use Rattle.rules.specs.Moves.{abortRotations};
 ghost use Rattle.rules.specs.Schedule.{unscheduled, passGate, scheduleSplit, scheduleSplits};
 ghost use Rattle.board.specs.Layout.{boardSize};
 ghost use Rattle.board.specs.Held.{Holds};
-ghost use Rattle.board.specs.Permitted.{PermittedStep};
 ghost use Rattle.steps.specs.Inner.{Step, Steps};
 ghost use Rattle.pool.specs.Told.{TellsTurn};
 ghost use Rattle.gathering.specs.Gathered.{Staying, gathered};
@@ -129,13 +128,4 @@ pub fn schedule_ready_splits_held(board: &mut [u64], draws: &[u64]) -> Outcome
     let mut targets = [0u64; 8];
     let n = batches::targets(board, Which::SplitsToSchedule, &mut targets);
     in_turn(board, &targets[..n], draws)
-}
-
-pub fn schedule_ready_splits(board: &mut [u64], draws: &[u64]) -> Outcome
-    ensures { λ r. ⌜ PermittedStep (scheduleSplits (now (draws .entry))) (now (board .entry)) (now (board .exit)) r ⌝ }
-{
-    if wellformed::well_formed(board) {
-        return schedule_ready_splits_held(board, draws);
-    }
-    steps::refusal(Answer::NotWellFormed)
 }

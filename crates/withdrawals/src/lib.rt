@@ -8,7 +8,6 @@ ghost use mathlib.Core.Path.{_≡_};
 ghost use lib.ListN.{length};
 ghost use Rattle.rules.specs.Places.{leave};
 ghost use Rattle.board.specs.Layout.{boardSize};
-ghost use Rattle.board.specs.Permitted.{PermittedStep};
 ghost use Rattle.steps.specs.Inner.{Steps};
 
 // Leave, for words that are known to hold a well-formed board.
@@ -26,17 +25,4 @@ pub fn deactivate_to_insufficient_stake_held(
     }
     let turned = exits::exit_placement(board, i, draws, Reader::start());
     turned.told()
-}
-
-pub fn deactivate_to_insufficient_stake(
-    board: &mut [u64],
-    machine: ValidatorId,
-    draws: &[u64],
-) -> Outcome
-    ensures { λ r. ⌜ PermittedStep (leave (machine .0) (now (draws .entry))) (now (board .entry)) (now (board .exit)) r ⌝ }
-{
-    if wellformed::well_formed(board) {
-        return deactivate_to_insufficient_stake_held(board, machine, draws);
-    }
-    steps::refusal(Answer::NotWellFormed)
 }
