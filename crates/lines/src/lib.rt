@@ -46,13 +46,6 @@ fn less(a: usize, b: usize) -> usize
     a - b
 }
 
-// Up to the column `to`; none where the line is already there.
-pub fn put_spaces(line: &mut [u8], at: usize, to: usize) -> usize
-    ensures { λ r. ⌜ Puts (now (line .entry)) at (spaces (to - at)) (now (line .exit)) r ⌝ }
-{
-    put_blanks(line, at, less(to, at))
-}
-
 pub fn put_number(line: &mut [u8], at: usize, width: usize, n: u64) -> usize
     ensures { λ r. ⌜ Puts (now (line .entry)) at (numeral width n) (now (line .exit)) r ⌝ }
 {

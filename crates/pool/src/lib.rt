@@ -1,4 +1,4 @@
-// The pool: the machines that wait for a seat, and a draw that seats one of them.
+// The pool: the machines that wait for a seat, a draw from them, and one that is seated; what a turn tells.
 use board::layout::MOST_MACHINES;
 use board::machines;
 use board::settings;
@@ -9,7 +9,7 @@ use types::Outcome;
 use types::ShardId;
 ghost use mathlib.Core.Path.{_≡_};
 ghost use mathlib.Core.List.{[], _∷_};
-ghost use mathlib.Core.Bool.{true, false};
+ghost use mathlib.Core.Bool.{true};
 ghost use Prim.Native.Nat.{_<_, _≤_};
 ghost use lib.ListN.{length, getD, drop};
 ghost use Rattle.rules.specs.Board.{Board, mostMachines, epochOf};
@@ -17,11 +17,10 @@ ghost use Rattle.types.specs.Places.{drawnTo};
 ghost use Rattle.rules.specs.WellFormed.{wellFormed};
 ghost use Rattle.rules.specs.Moves.{poolOf, mayJoin, putOn};
 ghost use Rattle.rules.specs.Draws.{drawFrom};
-ghost use Rattle.rules.specs.Turns.{poolDraw};
 ghost use Rattle.board.specs.Layout.{boardSize};
 ghost use Rattle.board.specs.Held.{Holds, noMachine};
 ghost use Rattle.pool.specs.Ranks.{HasRank};
-ghost use Rattle.pool.specs.Told.{RowWithin, TellsDraw, TellsTurn, toldOf};
+ghost use Rattle.pool.specs.Told.{RowWithin, TellsDraw, toldOf};
 
 // Whom a draw finds: a machine's row, and the reader moved on; or why it finds none.
 pub enum Found {
@@ -141,27 +140,5 @@ pub fn draw(ws: &[u64], draws: &[u64], at: Reader) -> Found
         }
         Drawn::Missing => Found::Missing,
         Drawn::TooLarge => Found::TooLarge,
-    }
-}
-
-// A draw from the pool onto the shard; where it is refused, every word is as before.
-pub fn pool_draw(ws: &mut [u64], shard: ShardId, draws: &[u64], at: Reader) -> Turned
-    requires { ⌜ (length (now ws) ≡ boardSize) × (at .at ≤ length (now draws)) ⌝ }
-    ensures { λ r. ⌜ ((b : Board) → Holds (now (ws .entry)) b → wellFormed b ≡ true →
-        TellsTurn (now (draws .entry)) (now (ws .exit)) b (poolDraw (shard .0) false (λ y c. c) (drop (at .at) (now (draws .entry))) b) r) ⌝ }
-{
-    let found = draw(ws, draws, at);
-    match found {
-        Found::Row(i, left) => {
-            let m = machines::at(ws, i);
-            if joining::may_join(ws, shard, m.id) {
-                seat_drawn(ws, shard, i);
-                return Turned::Done(1, left);
-            }
-            Turned::Refused(Answer::NoRoom)
-        }
-        Found::Nobody => Turned::Done(0, at),
-        Found::Missing => Turned::Refused(Answer::DrawMissing),
-        Found::TooLarge => Turned::Refused(Answer::DrawTooLarge),
     }
 }
