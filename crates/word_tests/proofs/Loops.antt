@@ -1,15 +1,15 @@
 -- A test of every element of a list, by a loop: what holds at each turn.
 use Prim.Native.Nat.{ℕ, zero, suc, _+_, _-_, _≤_, _<_}
 use mathlib.Core.Path.{_≡_, refl, ap, sym, _∙_}
-use mathlib.Core.List.{List, [], _∷_}
+use mathlib.Core.List.{List, [], _∷_, _++_}
 use mathlib.Core.Bool.{Bool, true, false, not, _&&_, and-assoc, and-true}
 use native.Mathlib.Omega.{arith}
 use native.Mathlib.Numerals.{add-one}
 use borrow.Author.Tests.{eq-eqb, ne-eqb, eqb-true, eqb-false}
 use lib.Bits.{bitOr, bitAnd, or-add-and, and-le-l, and-le-r}
 use lib.Dec.{eqb}
-use lib.ListN.{length, getD, take, drop, drop-of-length-le, length-drop}
-use lib.Seq.{drop-cons, take-all}
+use lib.ListN.{length, getD, take, drop, take-append-drop, drop-of-length-le, length-drop}
+use lib.Seq.{drop-cons, drop-drop, take-all}
 use Rattle.rules.specs.Lists.{_or_, every, any, has}
 use Rattle.word_tests.specs.Tests.{allZero}
 use Rattle.word_tests.proofs.Tests.{and-is}
@@ -53,6 +53,32 @@ zero-both a b = go (eqb a 0) (eqb b 0) refl refl
 
 pub zero-more : (t : List ℕ) (i bits : ℕ) → i < length t → allZero t ≡ (eqb bits 0 && allZero (drop i t)) → allZero t ≡ (eqb (bitOr bits (getD t i 0)) 0 && allZero (drop (i + 1) t))
 zero-more t i bits h e = gather allZero isZero zero-nil zero-cons t i (eqb bits 0) h e ∙ ap (λ (b : Bool). b && allZero (drop (i + 1) t)) (zero-both bits (getD t i 0))
+
+zeros-append : (s t : List ℕ) → allZero (s ++ t) ≡ (allZero s && allZero t)
+zeros-append [] t = rw zero-nil
+zeros-append (x ∷ s) t =
+    zero-cons x (s ++ t) ∙ ap (λ (b : Bool). eqb x 0 && b) (zeros-append s t) ∙ sym (and-assoc (eqb x 0) (allZero s) (allZero t)) ∙ ap (λ (b : Bool). b && allZero t) (sym (zero-cons x s))
+
+-- two parts and the rest
+module _ (t : List ℕ) (h e : ℕ) (m : h ≤ e) where
+  abbrev Halves : Bool
+  Halves = allZero (take h t) && allZero (take (e - h) (drop h t))
+
+  by-halves : allZero t ≡ (Halves && allZero (drop e t))
+  by-halves =
+      let z : h + (e - h) ≡ e = omega arith in
+      ap allZero (sym (take-append-drop h t)) ∙ zeros-append (take h t) (drop h t)
+      ∙ ap (λ (b : Bool). allZero (take h t) && b) (ap allZero (sym (take-append-drop (e - h) (drop h t))) ∙ zeros-append (take (e - h) (drop h t)) (drop (e - h) (drop h t)))
+      ∙ sym (and-assoc (allZero (take h t)) (allZero (take (e - h) (drop h t))) (allZero (drop (e - h) (drop h t))))
+      ∙ ap (λ (u : List ℕ). Halves && allZero u) (drop-drop (e - h) h t ∙ ap (λ (k : ℕ). drop k t) z)
+
+  pub halves-all : length t ≤ e → Halves ≡ allZero t
+  halves-all l = sym (by-halves ∙ rw (drop-of-length-le t l, zero-nil) (and-true Halves))
+
+  pub halves-and-one : length t ≡ e + 1 → (Halves && eqb (getD t e 0) 0) ≡ allZero t
+  halves-and-one l =
+      let n : drop (e + 1) t ≡ [] = drop-of-length-le t {i = e + 1} (omega arith) in
+      sym (by-halves ∙ ap (λ (b : Bool). Halves && b) (step allZero isZero zero-nil zero-cons t e (omega arith) ∙ rw (n, zero-nil) (and-true (eqb (getD t e 0) 0))))
 
 -- ---- a number that is not there
 

@@ -1,6 +1,6 @@
 // Tests of lent words: in a range, zero, distinct, rising. They are joined by `&` and `|`, which leave no branch.
 ghost use mathlib.Core.Path.{_≡_};
-ghost use mathlib.Core.Bool.{not, _||_};
+ghost use mathlib.Core.Bool.{not, _&&_, _||_};
 ghost use Prim.Native.Nat.{_+_};
 ghost use lib.ListN.{length};
 ghost use Rattle.rules.specs.Lists.{has, distinct};
@@ -16,17 +16,33 @@ pub fn inside(low: u64, high: u64, x: u64) -> bool
     (low <= x) & (x <= high)
 }
 
-// All bits together: one operation to a word.
+// All bits of each together: one operation to a word, and two that don't wait for each other.
+fn both_zero(s: &[u64], t: &[u64]) -> bool
+    requires { ⌜ length (now s) ≡ length (now t) ⌝ }
+    ensures { λ r. ⌜ r ≡ (allZero (now (s .entry)) && allZero (now (t .entry))) ⌝ }
+{
+    let mut low: u64 = 0;
+    let mut high: u64 = 0;
+    let mut i = 0;
+    while i < s.len() {
+        low = low | s[i];
+        high = high | t[i];
+        i += 1;
+    }
+    (low == 0) & (high == 0)
+}
+
+// By halves, and the word between them and the end where there is one.
 pub fn all_zero(t: &[u64]) -> bool
     ensures { λ r. ⌜ r ≡ allZero (now (t .entry)) ⌝ }
 {
-    let mut bits: u64 = 0;
-    let mut i = 0;
-    while i < t.len() {
-        bits = bits | t[i];
-        i += 1;
+    let half = t.len() / 2;
+    let end = half + half;
+    let halves = both_zero(&t[..half], &t[half..end]);
+    if end < t.len() {
+        return halves & (t[end] == 0);
     }
-    bits == 0
+    halves
 }
 
 fn lacking(x: u64, t: &[u64]) -> bool

@@ -1,39 +1,45 @@
-use Prim.Native.Nat.{_-_, _≤_}
-use mathlib.Core.Path.{_≡_, refl}
-use mathlib.Core.Bool.{_&&_}
+use mathlib.Core.Path.{_≡_, ap, sym, _∙_}
+use mathlib.Core.Bool.{Bool, _&&_}
+use Prim.Native.Nat.{_+_, _-_, _/_}
 use native.Mathlib.Omega.{arith}
 use lib.Dec.{eqb}
-use lib.ListN.{length, drop}
-use Rattle.word_tests.specs.Tests.{allZero}
-use Rattle.word_tests.proofs.Loops.{gathered, isZero, zero-nil, zero-cons, zero-more}
+use lib.ListN.{length, getD, take, drop, length-drop}
+use lib.Seq.{length-take-le}
+use Rattle.word_tests.proofs.Loops.{halves-all, halves-and-one}
+use borrow.Author.Needs.{needs}
 use Rattle.word_tests.proofs.all_zero.Statement.{statement}
 use Rattle.word_tests.proofs.all_zero.Tie as tie
 
-abbrev Inv-loop : tie.InvT-loop
-Inv-loop t bits₀ i₀ bits i = (i ≤ length t) × (allZero t ≡ (eqb bits 0 && allZero (drop i t)))
+slice-aggregate-both-zero : tie.Need-slice-aggregate-both-zero
+slice-aggregate-both-zero c = sym (length-take-le _ (c .before .before .args .t .now) (omega arith))
 
-abbrev μ-loop : tie.MeasureT-loop
-μ-loop t bits₀ i₀ bits i = length t - i
+both-zero-requires : tie.Need-both-zero-requires
+both-zero-requires c κs = let t = c .before .before .before .args .t .now in
+    let h = length t / 2 in
+    let a : length (take h t) ≡ h = length-take-le h t (omega arith) in
+    let b : length (take (h + h - h) (drop h t)) ≡ h + h - h = length-take-le (h + h - h) (drop h t) (omega (arith, length-drop h t)) in
+    let z : h + h - h ≡ h = omega arith in
+    a ∙ sym (b ∙ z)
 
-loop-holds : tie.Need-loop-holds Inv-loop μ-loop
-loop-holds c = (omega arith, refl)
+returns : tie.Need-returns
+returns c = let t = c .before .before .before .before .before .before .args .t .now in
+    ap (λ (b : Bool). b && eqb (getD t (length t / 2 + length t / 2) 0) 0) (c .before .before .both-zero .ensures) ∙ halves-and-one t (length t / 2) (length t / 2 + length t / 2) (omega arith) (omega arith)
 
-loop-again : tie.Need-loop-again Inv-loop μ-loop
-loop-again c = (omega arith, zero-more _ _ (c .before .before .loop .bits) (c .before .loop-test .taken) (c .before .before .loop .inv .1))
-
-returns : tie.Need-returns Inv-loop μ-loop
-returns c = gathered allZero isZero zero-nil zero-cons _ _ _ (c .loop-test .left) (c .before .loop .inv .1)
+returns-2 : tie.Need-returns-2
+returns-2 c = let t = c .before .before .before .before .before .args .t .now in c .before .both-zero .ensures ∙ halves-all t (length t / 2) (length t / 2 + length t / 2) (omega arith) (omega arith)
 
 pub all-zero-spec : {M : Type 1} → statement M
 all-zero-spec =
     tie.close
     (tie.spec
-    Inv-loop
-    μ-loop
-    loop-holds
-    (λ c. omega arith)
-    (λ c. omega arith)
-    (λ c. omega arith)
-    (λ c. omega arith)
-    loop-again
-    returns)
+    (λ c. search needs)
+    slice-aggregate-both-zero
+    (λ c. search needs)
+    (λ c. search needs)
+    (λ c. search needs)
+    (λ c. search needs)
+    both-zero-requires
+    (λ c. search needs)
+    (λ c. search needs)
+    returns
+    returns-2)
