@@ -28,15 +28,17 @@ use bytes_words::get_words;
 use bytes_words::word_at;
 use row_tests::RowKind;
 use shifts::clear;
+use word_tests::all_zero;
 ghost use mathlib.Core.Path.{_≡_};
 ghost use mathlib.Core.List.{List, _++_};
 ghost use mathlib.Core.Bool.{true};
 ghost use Prim.Native.Nat.{ℕ, _+_, _*_, _/_, _≤_};
-ghost use lib.ListN.{length, getD, drop};
+ghost use lib.ListN.{length, getD, drop, replicate};
 ghost use Rattle.rules.specs.Board.{Board};
 ghost use Rattle.rules.specs.Snapshot.{snapshotOf};
 ghost use Rattle.rules.specs.WellFormed.{wellFormed};
 ghost use Rattle.board.specs.Layout.{machineWidth, committeeWidth, reshapeWidth, machinesAt, boardSize, encode};
+ghost use Rattle.word_tests.specs.Tests.{allZero};
 ghost use Rattle.packing.specs.Packed.{flat, committee, reshape};
 ghost use Rattle.row_tests.specs.Rows.{widthOf};
 ghost use Rattle.unpacking.specs.AsWords.{AsWords};
@@ -89,6 +91,34 @@ fn unpack_list(w: usize, cap: usize, bytes: &[u8], at: usize, out: &mut [u64]) -
     let e = 1 + n * w;
     clear(&mut out[e..]);
     unpack_words(bytes, at, &mut out[..e])
+}
+
+// ---- Room
+
+// How many words of a room are looked at together.
+const PIECE: usize = 64;
+
+// Where the zeros at the end begin, found by pieces.
+fn zeros_from(t: &[u64]) -> usize
+    ensures { λ r. ⌜ (r ≤ length (now (t .entry))) × (allZero (drop r (now (t .entry))) ≡ true) ⌝ }
+{
+    let mut e = t.len();
+    while PIECE <= e {
+        let a = e - PIECE;
+        if !all_zero(&t[a..e]) {
+            return e;
+        }
+        e = a;
+    }
+    e
+}
+
+// As `clear`, where most words are zeros already: the room of a board that was read before. To read them costs less than to write them.
+fn wipe(t: &mut [u64])
+    ensures { λ _. ⌜ now (t .exit) ≡ replicate (length (now (t .entry))) 0 ⌝ }
+{
+    let e = zeros_from(t);
+    clear(&mut t[..e]);
 }
 
 // ---- Rows
@@ -221,7 +251,7 @@ fn unpack_table(k: RowKind, w: usize, cap: usize, bytes: &[u8], at: usize, out: 
     }
     let end = 1 + count * w;
     let next = unpack_rows(k, w, count, bytes, rows, &mut out[1..end]);
-    clear(&mut out[end..]);
+    wipe(&mut out[end..]);
     next
 }
 

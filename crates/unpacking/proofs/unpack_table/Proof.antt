@@ -20,20 +20,20 @@ add-end c = omega (arith, mul-le-mul-right (c .before .before .before .before .b
 part-unpack-rows-end : tie.Need-part-unpack-rows-end
 part-unpack-rows-end c = omega (arith, mul-le-mul-right (c .before .before .before .before .before .before .before .before .args .w) (c .if1 .left), c .before .before .before .before .before .before .before .before .pre .1, c .before .before .before .out .given .1)
 
-mul-clear : tie.Need-mul-clear
-mul-clear c = omega (arith, mul-le-mul-right (c .before .before .before .before .before .before .before .before .before .before .before .before .args .w) (c .before .before .before .before .if1 .left), c .before .before .before .before .before .before .before .before .before .before .before .before .pre .1)
+mul-wipe : tie.Need-mul-wipe
+mul-wipe c = omega (arith, mul-le-mul-right (c .before .before .before .before .before .before .before .before .before .before .before .before .args .w) (c .before .before .before .before .if1 .left), c .before .before .before .before .before .before .before .before .before .before .before .before .pre .1)
 
-sub-clear : tie.Need-sub-clear
-sub-clear c = omega (arith, mul-le-mul-right (c .before .before .before .before .before .before .before .before .before .before .before .before .args .w) (c .before .before .before .before .if1 .left), c .before .before .before .before .before .before .before .before .before .before .before .before .pre .1, c .before .before .before .before .before .before .before .out .given .1, c .before .out2 .given .1)
+sub-wipe : tie.Need-sub-wipe
+sub-wipe c = omega (arith, mul-le-mul-right (c .before .before .before .before .before .before .before .before .before .before .before .before .args .w) (c .before .before .before .before .if1 .left), c .before .before .before .before .before .before .before .before .before .before .before .before .pre .1, c .before .before .before .before .before .before .before .out .given .1, c .before .out2 .given .1)
 
-part-clear-start : tie.Need-part-clear-start
-part-clear-start c = omega (arith, mul-le-mul-right (c .before .before .before .before .before .before .before .before .before .before .before .before .args .w) (c .before .before .before .before .if1 .left), c .before .before .before .before .before .before .before .before .before .before .before .before .pre .1, c .before .before .before .before .before .before .before .out .given .1, c .before .out2 .given .1)
+part-wipe-start : tie.Need-part-wipe-start
+part-wipe-start c = omega (arith, mul-le-mul-right (c .before .before .before .before .before .before .before .before .before .before .before .before .args .w) (c .before .before .before .before .if1 .left), c .before .before .before .before .before .before .before .before .before .before .before .before .pre .1, c .before .before .before .before .before .before .before .out .given .1, c .before .out2 .given .1)
 
 returns-2 : tie.Need-returns-2
 returns-2 c = λ ws h.
     let a = c .before .before .before .before .before .before .before .before .before .before .before .before .before .before .before .before .args in
     table-read (a .k) (a .w) (a .cap) _ (a .at) (c .before .before .before .before .before .before .before .before .before .before .before .before .unpack-words .result) ws (a .out .now) _ (c .before .before .before .before .before .before .before .before .before .before .before .before .before .before .before .before .pre .0) (c .before .before .before .before .before .before .before .before .before .before .before .before .before .before .before .before .pre .1) (c .before .before .before .before .before .before .before .before .before .before .before .out .given .0) refl (c .before .before .before .before .before .before .before .before .before .before .before .before .unpack-words .ensures ws h) (c .before .before .before .before .before .before .unpack-rows .result) _ _ (c .before .before .before .before .before .before .before .before .if1 .left)
-    (c .before .before .before .before .before .out2 .given .0) (c .before .before .clear .ensures) (c .before .before .before .before .before .before .unpack-rows .ensures ws h)
+    (c .before .before .before .before .before .out2 .given .0) (c .before .before .wipe .ensures) (c .before .before .before .before .before .before .unpack-rows .ensures ws h)
 
 pub unpack-table-spec : {M : Type 1} → statement M
 unpack-table-spec =
@@ -52,9 +52,9 @@ unpack-table-spec =
     (λ c. search needs)
     part-unpack-rows-end
     (λ c κs. search needs)
-    mul-clear
-    sub-clear
-    part-clear-start
+    mul-wipe
+    sub-wipe
+    part-wipe-start
     (λ c. search needs)
     (λ c κs. search needs)
     (λ c. search needs)
