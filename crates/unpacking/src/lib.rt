@@ -45,6 +45,35 @@ ghost use Rattle.unpacking.specs.AsWords.{AsWords};
 ghost use Rattle.unpacking.specs.Parts.{PartRead, plain, Wide, Listed};
 ghost use Rattle.unpacking.specs.Unpacked.{mostOf, isPlain, GoodRow, packedRow, RowRead, RowsRead, TableRead, SettingsRead, FromBoundsRead};
 
+// ---- Room
+
+// How many words of a room are looked at together.
+const PIECE: usize = 256;
+
+// Where the zeros at the end begin, found by pieces.
+fn zeros_from(t: &[u64]) -> usize
+    ensures { λ r. ⌜ (r ≤ length (now (t .entry))) × (allZero (drop r (now (t .entry))) ≡ true) ⌝ }
+{
+    let mut e = t.len();
+    while PIECE <= e {
+        let a = e - PIECE;
+        if !all_zero(&t[a..e]) {
+            return e;
+        }
+        e = a;
+    }
+    e
+}
+
+// Room past a count is cleared. Most of a large one is zeros already where a board was read before: these are read, which costs
+// less than to write them.
+fn wipe(t: &mut [u64])
+    ensures { λ _. ⌜ now (t .exit) ≡ replicate (length (now (t .entry))) 0 ⌝ }
+{
+    let e = zeros_from(t);
+    clear(&mut t[..e]);
+}
+
 // ---- Words
 
 // The word at a place of the bytes, and 0 past the last.
@@ -89,36 +118,8 @@ fn unpack_list(w: usize, cap: usize, bytes: &[u8], at: usize, out: &mut [u64]) -
         return past(bytes);
     }
     let e = 1 + n * w;
-    clear(&mut out[e..]);
+    wipe(&mut out[e..]);
     unpack_words(bytes, at, &mut out[..e])
-}
-
-// ---- Room
-
-// How many words of a room are looked at together.
-const PIECE: usize = 64;
-
-// Where the zeros at the end begin, found by pieces.
-fn zeros_from(t: &[u64]) -> usize
-    ensures { λ r. ⌜ (r ≤ length (now (t .entry))) × (allZero (drop r (now (t .entry))) ≡ true) ⌝ }
-{
-    let mut e = t.len();
-    while PIECE <= e {
-        let a = e - PIECE;
-        if !all_zero(&t[a..e]) {
-            return e;
-        }
-        e = a;
-    }
-    e
-}
-
-// As `clear`, where most words are zeros already: the room of a board that was read before. To read them costs less than to write them.
-fn wipe(t: &mut [u64])
-    ensures { λ _. ⌜ now (t .exit) ≡ replicate (length (now (t .entry))) 0 ⌝ }
-{
-    let e = zeros_from(t);
-    clear(&mut t[..e]);
 }
 
 // ---- Rows

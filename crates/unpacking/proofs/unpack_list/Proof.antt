@@ -20,14 +20,14 @@ mul-e c = omega (arith, mul-le-mul-right (c .before .before .before .before .arg
 add-e : tie.Need-add-e
 add-e c = omega (arith, mul-le-mul-right (c .before .before .before .before .args .w) (c .if1 .left), c .before .before .before .before .pre)
 
-mul-clear : tie.Need-mul-clear
-mul-clear c = omega (arith, mul-le-mul-right (c .before .before .before .before .args .w) (c .if1 .left), c .before .before .before .before .pre)
+mul-wipe : tie.Need-mul-wipe
+mul-wipe c = omega (arith, mul-le-mul-right (c .before .before .before .before .args .w) (c .if1 .left), c .before .before .before .before .pre)
 
-sub-clear : tie.Need-sub-clear
-sub-clear c = omega (arith, mul-le-mul-right (c .before .before .before .before .args .w) (c .if1 .left), c .before .before .before .before .pre)
+sub-wipe : tie.Need-sub-wipe
+sub-wipe c = omega (arith, mul-le-mul-right (c .before .before .before .before .args .w) (c .if1 .left), c .before .before .before .before .pre)
 
-part-clear-start : tie.Need-part-clear-start
-part-clear-start c = omega (arith, mul-le-mul-right (c .before .before .before .before .args .w) (c .if1 .left), c .before .before .before .before .pre)
+part-wipe-start : tie.Need-part-wipe-start
+part-wipe-start c = omega (arith, mul-le-mul-right (c .before .before .before .before .args .w) (c .if1 .left), c .before .before .before .before .pre)
 
 slice-relend-prefix-unpack-words : tie.Need-slice-relend-prefix-unpack-words
 slice-relend-prefix-unpack-words c = omega (arith, mul-le-mul-right (c .before .before .before .before .before .before .before .before .args .w) (c .before .before .before .before .if1 .left), c .before .before .before .before .before .before .before .before .pre, c .before .out .given .1)
@@ -41,7 +41,7 @@ returns-2 c = λ ws h.
     let n = c .before .before .before .before .before .before .before .before .before .word .result in
     let fits : 1 + n * a .w ≤ length (a .out .now) = omega (arith, mul-le-mul-right (a .w) (c .before .before .before .before .before .before .before .before .if1 .left), c .before .before .before .before .before .before .before .before .before .before .before .before .pre) in
     let t = c .before .before .unpack-words .last .1 .1 .0 in
-    let z = ap (λ u. t ++ u) (room-cleared (1 + n * a .w) (a .out .now) _ fits (c .before .before .before .before .before .before .clear .ensures)) ∙ ap (λ (k : ℕ). t ++ replicate (k - (1 + n * a .w)) 0) (c .before .before .before .before .before .before .before .before .before .before .before .before .pre) in
+    let z = ap (λ u. t ++ u) (room-cleared (1 + n * a .w) (a .out .now) _ fits (c .before .before .before .before .before .before .wipe .ensures)) ∙ ap (λ (k : ℕ). t ++ replicate (k - (1 + n * a .w)) 0) (c .before .before .before .before .before .before .before .before .before .before .before .before .pre) in
     list-read (a .w) (a .cap) n (a .at) (c .before .before .unpack-words .result) ws _ t _ (c .before .before .before .before .before .before .before .before .before .word .ensures ws h) (omega arith) (omega (arith, c .before .before .before .before .before .out .given .1)) z (c .before .out2 .given .0) (c .before .before .unpack-words .ensures ws h)
 
 pub unpack-list-spec : {M : Type 1} → statement M
@@ -53,9 +53,9 @@ unpack-list-spec =
     returns
     mul-e
     add-e
-    mul-clear
-    sub-clear
-    part-clear-start
+    mul-wipe
+    sub-wipe
+    part-wipe-start
     (λ c. search needs)
     (λ c κs. search needs)
     slice-relend-prefix-unpack-words
