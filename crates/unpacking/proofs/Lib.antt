@@ -3,4 +3,3 @@ pub mod Parts
 pub mod Rows
 pub mod Sections
 pub mod Boards
-pub mod Room

@@ -28,51 +28,21 @@ use bytes_words::get_words;
 use bytes_words::word_at;
 use row_tests::RowKind;
 use shifts::clear;
-use word_tests::all_zero;
+use wiping::wipe;
 ghost use mathlib.Core.Path.{_≡_};
 ghost use mathlib.Core.List.{List, _++_};
 ghost use mathlib.Core.Bool.{true};
 ghost use Prim.Native.Nat.{ℕ, _+_, _*_, _/_, _≤_};
-ghost use lib.ListN.{length, getD, drop, replicate};
+ghost use lib.ListN.{length, getD, drop};
 ghost use Rattle.rules.specs.Board.{Board};
 ghost use Rattle.rules.specs.Snapshot.{snapshotOf};
 ghost use Rattle.rules.specs.WellFormed.{wellFormed};
 ghost use Rattle.board.specs.Layout.{machineWidth, committeeWidth, reshapeWidth, machinesAt, boardSize, encode};
-ghost use Rattle.word_tests.specs.Tests.{allZero};
 ghost use Rattle.packing.specs.Packed.{flat, committee, reshape};
 ghost use Rattle.row_tests.specs.Rows.{widthOf};
 ghost use Rattle.unpacking.specs.AsWords.{AsWords};
 ghost use Rattle.unpacking.specs.Parts.{PartRead, plain, Wide, Listed};
 ghost use Rattle.unpacking.specs.Unpacked.{mostOf, isPlain, GoodRow, packedRow, RowRead, RowsRead, TableRead, SettingsRead, FromBoundsRead};
-
-// ---- Room
-
-// How many words of a room are looked at together.
-const PIECE: usize = 256;
-
-// Where the zeros at the end begin, found by pieces.
-fn zeros_from(t: &[u64]) -> usize
-    ensures { λ r. ⌜ (r ≤ length (now (t .entry))) × (allZero (drop r (now (t .entry))) ≡ true) ⌝ }
-{
-    let mut e = t.len();
-    while PIECE <= e {
-        let a = e - PIECE;
-        if !all_zero(&t[a..e]) {
-            return e;
-        }
-        e = a;
-    }
-    e
-}
-
-// Room past a count is cleared. Most of a large one is zeros already where a board was read before: these are read, which costs
-// less than to write them.
-fn wipe(t: &mut [u64])
-    ensures { λ _. ⌜ now (t .exit) ≡ replicate (length (now (t .entry))) 0 ⌝ }
-{
-    let e = zeros_from(t);
-    clear(&mut t[..e]);
-}
 
 // ---- Words
 

@@ -2,9 +2,9 @@ use mathlib.Core.Path.{sym, ap, _∙_}
 use lib.ListN.{length, length-replicate}
 use lib.Seq.{length-take-le}
 use borrow.Author.Needs.{needs}
-use Rattle.unpacking.proofs.Room.{wiped}
-use Rattle.unpacking.proofs.wipe.Statement.{statement}
-use Rattle.unpacking.proofs.wipe.Tie as tie
+use Rattle.wiping.proofs.Room.{wiped}
+use Rattle.wiping.proofs.wipe.Statement.{statement}
+use Rattle.wiping.proofs.wipe.Tie as tie
 
 slice-aggregate-clear : tie.Need-slice-aggregate-clear
 slice-aggregate-clear c = sym (length-take-le _ _ (c .before .zeros-from .ensures .0))

@@ -6,9 +6,9 @@ use borrow.Author.Needs.{needs}
 use borrow.Author.Tests.{not-false}
 use lib.ListN.{length, drop}
 use Rattle.word_tests.specs.Tests.{allZero}
-use Rattle.unpacking.proofs.Room.{zeros-end, zeros-more}
-use Rattle.unpacking.proofs.zeros_from.Statement.{statement}
-use Rattle.unpacking.proofs.zeros_from.Tie as tie
+use Rattle.wiping.proofs.Room.{zeros-end, zeros-more}
+use Rattle.wiping.proofs.zeros_from.Statement.{statement}
+use Rattle.wiping.proofs.zeros_from.Tie as tie
 
 abbrev Inv-loop : tie.InvT-loop
 Inv-loop t e₀ e = (e ≤ length t) × (allZero (drop e t) ≡ true)
