@@ -30,6 +30,7 @@ const LAST_MARK: u64 = 255;
 // ---- Rows
 
 // By a place's code. A match, which becomes a table of constants where they are given; an array would be laid anew at each call.
+// All five codes have an arm, so that the table has all five and nothing is asked before it.
 fn by_code(code: u64, pooled: u64, seated: u64, observing: u64, short: u64, other: u64) -> u64
     requires { ⌜ code ≤ 4 ⌝ }
     ensures { λ r. ⌜ r ≡ at (pooled ∷ seated ∷ observing ∷ short ∷ other ∷ []) code ⌝ }
@@ -39,7 +40,8 @@ fn by_code(code: u64, pooled: u64, seated: u64, observing: u64, short: u64, othe
         1 => seated,
         2 => observing,
         3 => short,
-        _ => other,
+        4 => other,
+        _ => 0,
     }
 }
 
