@@ -56,7 +56,7 @@ pub record Decides {A : Type 0} (f : A → List ℕ) (good : A → Bool) (w : �
 
 -- ---- zeros and padding
 
-zero-sound : (t : List ℕ) → allZero t ≡ true → t ≡ replicate (length t) 0
+pub zero-sound : (t : List ℕ) → allZero t ≡ true → t ≡ replicate (length t) 0
 zero-sound [] h = refl
 zero-sound (x ∷ t) h =
     let p = every-parts _ x t h in
