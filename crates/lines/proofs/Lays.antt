@@ -9,11 +9,8 @@ use borrow.Author.Tests.{ltb-true, ltb-false}
 use lib.Dec.{ltb}
 use lib.ListN.{length, take, drop, set, length-replicate, getD-replicate, length-append, length-set, getD, take-append-drop}
 use lib.Seq.{take-all, take-suc, take-suc-set, take-append-le, drop-set-lt, drop-drop, length-take-le, take-take}
-use Rattle.lines.specs.Says.{Says, Puts}
+use Rattle.lines.specs.Says.{Puts}
 use Rattle.lines.specs.Numeral.{spaces}
-
-pub says-nothing : (l : List ℕ) → Says l 0 []
-says-nothing l = record { place = omega arith; text = refl }
 
 pub puts-none : (l : List ℕ) (at : ℕ) → Puts l at [] l at
 puts-none l at = record { room = refl; says = λ t h. rw append-nil h; kept = refl; past = λ h. (refl, refl) }

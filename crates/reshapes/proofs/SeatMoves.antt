@@ -1,22 +1,19 @@
 -- The moves on a reshape's lists, by key, as the leaves do them at a row.
 use Prim.Native.Nat.{ℕ, _≤_, _<_}
-use mathlib.Core.Path.{_≡_, refl, ap, _∙_}
-use mathlib.Core.List.{List, [], _++_}
+use mathlib.Core.Path.{_≡_, ap, _∙_}
 use mathlib.Core.Option.{none}
 use mathlib.Core.Bool.{true, false, cond}
 use lib.ListN.{length, getD, set}
 use lib.Seq.{set-getD}
-use Rattle.types.specs.Numbers.{Shard, Id, Epoch}
+use Rattle.types.specs.Numbers.{Shard, Id}
 use Rattle.rules.specs.Table.{entry, Table, at, put, remove, update}
-use Rattle.rules.specs.Board.{Kind, Seat, Reshape, Board, onReshapes, epochOf}
-use Rattle.rules.specs.Moves.{isKind, withSeats, withTerminal, giveUpSeat}
-use Rattle.rules.specs.Reshapes.{newReshape}
+use Rattle.rules.specs.Board.{Kind, Seat, Reshape, Board, onReshapes}
+use Rattle.rules.specs.Moves.{isKind, withSeats, giveUpSeat}
 use Rattle.tables.specs.Rows.{Rising, keyOf, placeOf, insertAt, removeAt}
 use Rattle.tables.proofs.Keys.{first-most, remove-none, remove-is-removeAt, put-is-insertAt}
 use Rattle.board.specs.Held.{noReshape, noSeat}
 use Rattle.board.specs.Leaves.{changeAt}
 use Rattle.board.proofs.Keyed.{update-is-change}
-use Rattle.reshapes.specs.Changes.{withLeft, withRight, atTerminal, newlyAdmitted}
 
 -- the seats of the reshape at a row
 abbrev pub seatsInRow : ℕ → Board → Table Seat
@@ -25,15 +22,6 @@ seatsInRow i b = getD (b .reshapes) i noReshape .val .seats
 -- the place of an id is within them, or at their end
 pub place-within : (x : Id) (t : Table Seat) (k : ℕ) → k ≡ placeOf keyOf x t → k ≤ length t
 place-within x t k e = rw e (first-most _ t)
-
--- a reshape just admitted has the seats that are taken one after another
-pub admitted-is-new : (k : Kind) (b : Board) → newReshape k [] b ≡ newlyAdmitted k (epochOf b)
-admitted-is-new k b = refl
-
--- a terminal with its halves: the terminal, then the ids one after another
-pub terminal-and-halves : (e : Epoch) (left right : List Id) (r : Reshape) → r .left ≡ [] → r .right ≡ []
-    → withTerminal e left right r ≡ withRight (λ l. l ++ right) (withLeft (λ l. l ++ left) (atTerminal e r))
-terminal-and-halves e left right r p q = rw (p, q)
 
 -- the reshape at t stands at row i
 module _ (b : Board) (t : Shard) (i : ℕ) (r : Rising keyOf (b .reshapes)) (h : i < length (b .reshapes)) (e : getD (b .reshapes) i noReshape .key ≡ t) where
@@ -57,9 +45,6 @@ module _ (b : Board) (t : Shard) (i : ℕ) (r : Rising keyOf (b .reshapes)) (h :
 
   -- the seat of x stands at row n
   module _ (x : Id) (n : ℕ) (s : Rising keyOf (here .seats)) (l : n < length (here .seats)) (k : getD (here .seats) n noSeat .key ≡ x) where
-    pub seat-changed : (f : Seat → Seat) → onReshapes (update t (withSeats (update x f))) b ≡ onReshapes (changeAt noReshape i (withSeats (changeAt noSeat n f))) b
-    seat-changed f = seats-same (update x f) (changeAt noSeat n f) (update-is-change (here .seats) s x n noSeat l k f)
-
     pub seat-given-up : (m : Kind) → isKind m here ≡ true → giveUpSeat m t x b ≡ onReshapes (changeAt noReshape i (withSeats (λ y. removeAt y n))) b
     unfolding giveUpSeat
     seat-given-up m c =

@@ -1,8 +1,8 @@
 -- Laws of tables: what stands at a key after each operation, and what that does to a number told of it.
-use mathlib.Core.Path.{_≡_, refl, ap, sym, subst, _∙_}
+use mathlib.Core.Path.{_≡_, refl, ap, sym, _∙_}
 use mathlib.Core.Logic.{_≢_}
 use mathlib.Core.List.{[], _∷_}
-use mathlib.Core.Option.{Option, none, some, Option·map, Option·none-ne-some, Option·some-injective}
+use mathlib.Core.Option.{Option, none, some, Option·map}
 use mathlib.Core.Bool.{Bool, true, false, cond}
 use Prim.Native.Nat.{ℕ, suc, _+_, _*_, _≤_, _<_}
 use native.Mathlib.Omega.{arith}
@@ -149,36 +149,6 @@ module _ {A : Type 0} where
       go (same p q) false u h = simp (u, q) (rw (at-below x (suc (e .key)) t (r .1) (omega arith)) at h)
       go (apart p q) true u h = simp (u, q, hit-apart x (e .key) p) (omega arith)
       go (apart p q) false u h = simp (u, q) h
-
--- a property of every value that can be found
-module _ {A : Type 0} (P : A → Type 0) where
-  unfoldable pub Holds : Table A → Type 0
-  Holds t = (k : ℕ) (v : A) → at k t ≡ some v → P v
-
-  pub Holds-update : (x : ℕ) (f : A → A) (t : Table A) → ((v : A) → P v → P (f v)) → Holds t → Holds (update x f t)
-  unfolding Holds update
-  Holds-update x f t pf h k v e = go (at k t) refl (eqb k x) (rw (at-each (λ j u. cond (eqb j x) (f u) u) k t) at e)
-    where
-      go : (o : Option A) → at k t ≡ o → (c : Bool) → Option·map (λ u. cond c (f u) u) o ≡ some v → P v
-      go none a c u = absurd (Option·none-ne-some v u)
-      go (some w) a true u = subst P (Option·some-injective (f w) v u) (pf w (h k w a))
-      go (some w) a false u = subst P (Option·some-injective w v u) (h k w a)
-
-  pub Holds-put : (x : ℕ) (w : A) (t : Table A) → P w → Holds t → Holds (put x w t)
-  unfolding Holds
-  Holds-put x w t pw h k v e = go (eqb k x) (rw (at-put k x w t) at e)
-    where
-      go : (c : Bool) → cond c (some w) (at k t) ≡ some v → P v
-      go true u = subst P (Option·some-injective w v u) pw
-      go false u = h k v u
-
-  pub Holds-remove : (x : ℕ) (t : Table A) → Holds t → Holds (remove x t)
-  unfolding Holds
-  Holds-remove x t h k v e = go (eqb k x) (rw (at-remove k x t) at e)
-    where
-      go : (c : Bool) → cond c none (at k t) ≡ some v → P v
-      go true u = absurd (Option·none-ne-some v u)
-      go false u = h k v u
 
 -- a number that the change does not touch
 module _ {A : Type 0} where

@@ -7,9 +7,8 @@ use lib.Dec.{eqb, ltb}
 use lib.ListN.{getD, replicate}
 use Rattle.rules.specs.Board.{Rotation}
 use Rattle.rules.specs.WellFormed.{rotationBefore}
-use Rattle.rules.specs.Moves.{hasParty, dropRotations}
+use Rattle.rules.specs.Moves.{hasParty}
 use Rattle.rules.specs.Snapshot.{rotationWords}
-use Rattle.tables.specs.Rows.{without}
 use Rattle.tables.proofs.Bools.{or-is, and-is}
 use Rattle.board.specs.Layout.{rotationWidth}
 use Rattle.board.specs.Held.{noRotation}
@@ -26,10 +25,6 @@ rotation-key r = refl
 pub no-rotation : rotationWords noRotation ≡ replicate rotationWidth 0
 unfolding rotationWords
 no-rotation = refl
-
-pub drop-is-without : (s : ℕ) (l : List Rotation) → dropRotations s l ≡ without (λ r. r .shard) s l
-unfolding dropRotations
-drop-is-without s l = refl
 
 -- ---- tests as the code writes them
 
