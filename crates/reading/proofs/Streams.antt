@@ -1,5 +1,5 @@
 -- STREAMS DECIDED, once for every kind of row: what pass one tells row by row is what stands in the words.
-use Prim.Native.Nat.{ℕ, suc, _+_, _-_, _≤_, _<_}
+use Prim.Native.Nat.{ℕ, suc, _+_, _-_, _*_, _≤_, _<_}
 use mathlib.Core.Path.{_≡_, refl, ap, sym, subst, _∙_}
 use mathlib.Core.List.{List, [], _∷_, _++_, append-assoc}
 use mathlib.Core.Logic.{_⊎_, inl, inr}
@@ -14,6 +14,7 @@ use Rattle.rules.specs.Lists.{every}
 use Rattle.rules.specs.WellFormed.{rising, goodList}
 use Rattle.rules.specs.Snapshot.{rowsWords, section}
 use Rattle.rules.proofs.Tests.{and-parts, and-joins, all-parts, all-joins, every-parts, every-join, every-none}
+use Rattle.tables.proofs.Tables.{rows-length}
 use Rattle.row_tests.specs.declared.RowKind.{RowKind}
 use Rattle.word_tests.specs.Tests.{allPass, anyPass, rises}
 use Rattle.row_tests.specs.Rows.{rowOk, inPairs, widthOf}
@@ -175,6 +176,11 @@ module _ (k : RowKind) (ws : List ℕ) where
               first = record { row = x; good = q .0; words = v ∙ ap (λ (u : List ℕ). snapRow k x ++ u) (sym f); next = refl; order = b .0 };
               others = record { rows = xs; count = omega arith; each = q .1; order = b .1; words = f; next = omega (arith, rows-long x xs) };
             }
+
+-- n rows of w words each are all there
+pub rows-fit : (k : RowKind) (w : ℕ) → ((x : RowOf k) → length (snapRow k x) ≡ w) → (ws : List ℕ) (n a e : ℕ) → RowsAt k n ws a e → n * w ≤ length ws - a
+rows-fit k w fw ws n a e p =
+    omega (arith, ap length (p .words), length-append (rowsWords (snapRow k) (p .rows)) (drop e ws), length-drop a ws, rows-length (snapRow k) w fw (p .rows), ap (λ (m : ℕ). m * w) (p .count))
 
 -- ---- a section
 

@@ -1,7 +1,6 @@
 // Bytes to the lent words of a board: first whether they are a well-formed board's snapshot, then its words.
 use board::layout::BOARD_SIZE;
 use board::layout::BOUNDARY_WIDTH;
-use board::layout::COMMITTEE_WIDTH;
 use board::layout::LAST_SHARD;
 use board::layout::MACHINE_WIDTH;
 use board::layout::MACHINES_AT;
@@ -9,39 +8,39 @@ use board::layout::MOST_BOUNDS;
 use board::layout::MOST_COMMITTEES;
 use board::layout::MOST_MACHINES;
 use board::layout::MOST_MEMBERS;
-use board::layout::MOST_RESHAPES;
 use board::layout::MOST_ROTATIONS;
-use board::layout::RESHAPE_WIDTH;
 use board::layout::ROTATION_WIDTH;
 use board::layout::SETTINGS_END;
 use bytes_words::get_words;
+use bytes_words::word_at;
+use id_lists::ids_end;
 use row_tests::RowKind;
 use row_tests::machine_ok;
 use row_tests::row_ok;
 use types::Answer;
 use unpacking::unpack_board;
-use unpacking::unpack_machine;
 use unpacking::unpack_row;
 use unpacking::word;
 use wellformed::settings_ok;
 use word_tests::MARKS;
-use word_tests::ids_ok;
 use word_tests::inside;
 use word_tests::rises;
 ghost use mathlib.Core.Path.{_≡_};
 ghost use mathlib.Core.List.{List};
-ghost use mathlib.Core.Bool.{false, _&&_};
-ghost use Prim.Native.Nat.{ℕ, _+_, _/_, _%_, _≤_};
-ghost use lib.ListN.{length, getD, drop};
-ghost use Rattle.word_tests.specs.Tests.{at, markCount, idsOk, rises};
-ghost use Rattle.rules.specs.Board.{mostMachines, mostCommittees, mostMembers, mostBounds, mostRotations, mostReshapes};
-ghost use Rattle.rules.specs.WellFormed.{isShard};
-ghost use Rattle.board.specs.Layout.{committeeWidth};
+ghost use mathlib.Core.Bool.{false, cond};
+ghost use Prim.Native.Nat.{ℕ, _+_, _*_, _/_, _%_, _≤_};
+ghost use lib.Dec.{eqb};
+ghost use lib.ListN.{length, drop};
+ghost use Rattle.word_tests.specs.Tests.{markCount, rises};
+ghost use Rattle.rules.specs.Board.{mostMachines, mostCommittees, mostBounds, mostRotations};
+ghost use Rattle.board.specs.Layout.{machineWidth};
 ghost use Rattle.row_tests.specs.Rows.{inPairs, widthOf};
 ghost use Rattle.snapshot.specs.ReadAs.{ReadAs};
 ghost use Rattle.unpacking.specs.AsWords.{AsWords};
 ghost use Rattle.reading.specs.Told.{TellsSnapshot};
 ghost use Rattle.reading.specs.Stream.{TellsRow, TellsSection, TellsHead};
+
+mod reshape_rows;
 
 // ---- Rows
 
@@ -96,81 +95,43 @@ fn wide_end(k: RowKind, last: bool, bytes: &[u8], at: usize, out: &mut [u64]) ->
     e
 }
 
-// ---- Committees: the members as they are read, without the room past them; by marks that serve many committees
+// ---- Committees: by marks that serve many of them
 
-fn members_ok(marks: &mut [u8], stamp: u8, n: usize, t: &[u64]) -> bool
-    requires { ⌜ (length (now marks) ≡ markCount) × (length (now t) ≡ 2 + n) ⌝ }
-    ensures { λ r. ⌜ r ≡ (isShard (at (now (t .entry)) 0) && idsOk n (drop 1 (now (t .entry)))) ⌝ }
+// As `row_end`, of a committee: its shard, then its members.
+fn committee_end(last: bool, bytes: &[u8], at: usize, marks: &mut [u8], stamp: u8) -> usize
+    requires { ⌜ length (now marks) ≡ markCount ⌝ }
+    ensures { λ r. ⌜ ((ws : List ℕ) → AsWords (now (bytes .entry)) ws → TellsRow RowKind.Committees last ws at r) ⌝ }
 {
-    let members = ids_ok(marks, stamp, n, &t[1..]);
-    inside(1, LAST_SHARD, t[0]) & members
-}
-
-// As `row_end`, of a committee of n.
-fn members_end(
-    last: bool,
-    n: usize,
-    bytes: &[u8],
-    at: usize,
-    row: &mut [u64],
-    marks: &mut [u8],
-    stamp: u8,
-) -> usize
-    requires { ⌜ (length (now row) ≡ 2 + n) × (at + 2 + n ≤ length (now bytes) / 8) × (n ≤ mostMembers) × (length (now marks) ≡ markCount) ⌝ }
-    ensures { λ r. ⌜ ((ws : List ℕ) → AsWords (now (bytes .entry)) ws → n ≡ getD ws (at + 1) 0 → TellsRow RowKind.Committees last ws at r) ⌝ }
-{
-    get_words(bytes, 8 * at, row);
-    if !members_ok(marks, stamp, n, row) {
+    if bytes.len() / 8 <= at {
         return 0;
     }
-    let e = at + 2 + n;
+    let shard = word(bytes, at);
+    if !inside(1, LAST_SHARD, shard) {
+        return 0;
+    }
+    let e = ids_end(MOST_MEMBERS, marks, stamp, bytes, at + 1);
+    if e == 0 {
+        return 0;
+    }
     if last {
         return e;
     }
-    if !first_rises_to(row, bytes, e) {
+    if !(shard < word(bytes, e)) {
         return 0;
     }
     e
 }
 
-// As `row_end`, of a committee.
-fn committee_end(
-    last: bool,
-    bytes: &[u8],
-    at: usize,
-    row: &mut [u64],
-    marks: &mut [u8],
-    stamp: u8,
-) -> usize
-    requires { ⌜ (length (now row) ≡ committeeWidth) × (length (now marks) ≡ markCount) ⌝ }
-    ensures { λ r. ⌜ ((ws : List ℕ) → AsWords (now (bytes .entry)) ws → TellsRow RowKind.Committees last ws at r) ⌝ }
-{
-    let total = bytes.len() / 8;
-    if total <= at {
-        return 0;
-    }
-    let n = word(bytes, at + 1) as usize;
-    if MOST_MEMBERS < n {
-        return 0;
-    }
-    if total < at + 2 + n {
-        return 0;
-    }
-    let k = 2 + n;
-    members_end(last, n, bytes, at, &mut row[..k], marks, stamp)
-}
-
-fn lone_committee_end(last: bool, bytes: &[u8], at: usize, row: &mut [u64]) -> usize
-    requires { ⌜ length (now row) ≡ committeeWidth ⌝ }
+fn lone_committee_end(last: bool, bytes: &[u8], at: usize) -> usize
     ensures { λ r. ⌜ ((ws : List ℕ) → AsWords (now (bytes .entry)) ws → TellsRow RowKind.Committees last ws at r) ⌝ }
 {
     let mut marks: [u8; MARKS] = [0; MARKS];
-    committee_end(last, bytes, at, row, &mut marks, 1)
+    committee_end(last, bytes, at, &mut marks, 1)
 }
 
 // As `section_end`, of the committees: each has its own stamp.
-fn committees_end_marking(bytes: &[u8], at: usize, row: &mut [u64], marks: &mut [u8]) -> usize
-    requires { ⌜ (length (now bytes) % 8 ≡ 0) × (length (now row) ≡ committeeWidth) × (length (now marks) ≡ markCount) ⌝ }
+fn committees_end(bytes: &[u8], at: usize, marks: &mut [u8]) -> usize
+    requires { ⌜ length (now marks) ≡ markCount ⌝ }
     ensures { λ r. ⌜ ((ws : List ℕ) → AsWords (now (bytes .entry)) ws → TellsSection RowKind.Committees mostCommittees ws at r) ⌝ }
 {
     if at == 0 {
@@ -185,22 +146,13 @@ fn committees_end_marking(bytes: &[u8], at: usize, row: &mut [u64], marks: &mut 
     }
     let mut a = at + 1;
     while 0 < n {
-        a = committee_end(n == 1, bytes, a, row, marks, (n % 256) as u8);
+        a = committee_end(n == 1, bytes, a, marks, (n % 256) as u8);
         if a == 0 {
             return 0;
         }
         n -= 1;
     }
     a
-}
-
-fn committees_end(bytes: &[u8], at: usize) -> usize
-    requires { ⌜ length (now bytes) % 8 ≡ 0 ⌝ }
-    ensures { λ r. ⌜ ((ws : List ℕ) → AsWords (now (bytes .entry)) ws → TellsSection RowKind.Committees mostCommittees ws at r) ⌝ }
-{
-    let mut row: [u64; COMMITTEE_WIDTH] = [0; COMMITTEE_WIDTH];
-    let mut marks: [u8; MARKS] = [0; MARKS];
-    committees_end_marking(bytes, at, &mut row, &mut marks)
 }
 
 // ---- A row of any kind
@@ -212,46 +164,40 @@ pub fn row_end(k: RowKind, last: bool, bytes: &[u8], at: usize, out: &mut [u64])
 {
     match k {
         RowKind::Machines => wide_end(k, last, bytes, at, out),
-        RowKind::Committees => lone_committee_end(last, bytes, at, out),
+        RowKind::Committees => lone_committee_end(last, bytes, at),
         RowKind::Boundaries => wide_end(k, last, bytes, at, out),
         RowKind::Rotations => wide_end(k, last, bytes, at, out),
         RowKind::Reshapes => wide_end(k, last, bytes, at, out),
     }
 }
 
-// ---- Machines: by far the most rows, tested as they are read
+// ---- Machines: by far the most rows, whose words are asked for once
 
-// As `row_end`, of a machine.
-fn machine_end(last: bool, bytes: &[u8], at: usize) -> usize
-    requires { ⌜ length (now bytes) % 8 ≡ 0 ⌝ }
-    ensures { λ r. ⌜ ((ws : List ℕ) → AsWords (now (bytes .entry)) ws → TellsRow RowKind.Machines last ws at r) ⌝ }
+// Whether a good machine stands at a place where the words of n stand, below the next unless it is the last.
+fn machine_stands(n: usize, bytes: &[u8], at: usize) -> bool
+    requires { ⌜ (1 ≤ n) × (at + n * machineWidth ≤ length (now bytes) / 8) ⌝ }
+    ensures { λ r. ⌜ ((ws : List ℕ) → AsWords (now (bytes .entry)) ws → TellsRow RowKind.Machines (eqb n 1) ws at (cond r (at + machineWidth) 0)) ⌝ }
 {
     let mut t: [u64; MACHINE_WIDTH] = [0; MACHINE_WIDTH];
-    let e = unpack_machine(bytes, at, &mut t);
-    if e == 0 {
-        return 0;
-    }
+    get_words(bytes, 8 * at, &mut t);
     if !machine_ok(&t) {
-        return 0;
+        return false;
     }
-    if last {
-        return e;
+    if n == 1 {
+        return true;
     }
-    if !first_rises_to(&t, bytes, e) {
-        return 0;
-    }
-    e
+    t[0] < word_at(bytes, 8 * (at + MACHINE_WIDTH))
 }
 
 // As `section_end`, of the machines.
 fn machines_end(bytes: &[u8], at: usize) -> usize
-    requires { ⌜ length (now bytes) % 8 ≡ 0 ⌝ }
     ensures { λ r. ⌜ ((ws : List ℕ) → AsWords (now (bytes .entry)) ws → TellsSection RowKind.Machines mostMachines ws at r) ⌝ }
 {
     if at == 0 {
         return 0;
     }
-    if bytes.len() / 8 <= at {
+    let total = bytes.len() / 8;
+    if total <= at {
         return 0;
     }
     let mut n = word(bytes, at) as usize;
@@ -259,11 +205,14 @@ fn machines_end(bytes: &[u8], at: usize) -> usize
         return 0;
     }
     let mut a = at + 1;
+    if total - a < n * MACHINE_WIDTH {
+        return 0;
+    }
     while 0 < n {
-        a = machine_end(n == 1, bytes, a);
-        if a == 0 {
+        if !machine_stands(n, bytes, a) {
             return 0;
         }
+        a += MACHINE_WIDTH;
         n -= 1;
     }
     a
@@ -313,31 +262,6 @@ fn rotations_end(bytes: &[u8], at: usize) -> usize
     section_end(RowKind::Rotations, MOST_ROTATIONS, bytes, at, &mut row)
 }
 
-fn some_reshapes_end(bytes: &[u8], at: usize) -> usize
-    requires { ⌜ length (now bytes) % 8 ≡ 0 ⌝ }
-    ensures { λ r. ⌜ ((ws : List ℕ) → AsWords (now (bytes .entry)) ws → TellsSection RowKind.Reshapes mostReshapes ws at r) ⌝ }
-{
-    let mut row: [u64; RESHAPE_WIDTH] = [0; RESHAPE_WIDTH];
-    section_end(RowKind::Reshapes, MOST_RESHAPES, bytes, at, &mut row)
-}
-
-// Most boards have none, and need no scratch for the widest row.
-fn reshapes_end(bytes: &[u8], at: usize) -> usize
-    requires { ⌜ length (now bytes) % 8 ≡ 0 ⌝ }
-    ensures { λ r. ⌜ ((ws : List ℕ) → AsWords (now (bytes .entry)) ws → TellsSection RowKind.Reshapes mostReshapes ws at r) ⌝ }
-{
-    if at == 0 {
-        return 0;
-    }
-    if bytes.len() / 8 <= at {
-        return 0;
-    }
-    if word(bytes, at) == 0 {
-        return at + 1;
-    }
-    some_reshapes_end(bytes, at)
-}
-
 // The settings are tested as a board has them, with zeros in the room for more.
 fn head_ok(bytes: &[u8]) -> bool
     ensures { λ r. ⌜ ((ws : List ℕ) → AsWords (now (bytes .entry)) ws → TellsHead ws r) ⌝ }
@@ -359,11 +283,12 @@ pub fn is_snapshot(bytes: &[u8]) -> bool
     if bytes.len() % 8 != 0 {
         return false;
     }
+    let mut marks: [u8; MARKS] = [0; MARKS];
     let m = machines_end(bytes, SETTINGS_END);
-    let c = committees_end(bytes, m);
+    let c = committees_end(bytes, m, &mut marks);
     let b = boundaries_end(bytes, c);
     let o = rotations_end(bytes, b);
-    let r = reshapes_end(bytes, o);
+    let r = reshape_rows::reshapes_end(bytes, o, &mut marks);
     head_ok(bytes) & (r == bytes.len() / 8)
 }
 

@@ -13,9 +13,9 @@ use lib.Seq.{take-at, drop-at, drop-drop, getD-take, getD-drop}
 use Rattle.types.specs.Numbers.{Id, Epoch}
 use Rattle.types.specs.Shards.{parentOf, leftOf, rightOf}
 use Rattle.rules.specs.Lists.{_and_, _or_, bitOf, isEmpty}
-use Rattle.rules.specs.Table.{Entry, entry}
+use Rattle.rules.specs.Table.{Entry, entry, Table}
 use Rattle.rules.specs.Board.{Kind, split, merge, Seat, Reshape, mostSeats, mostHalf}
-use Rattle.rules.specs.WellFormed.{keyBefore, goodTable, goodSeat, goodQuiet, mayHaveHalves, goodReshape}
+use Rattle.rules.specs.WellFormed.{isTarget, isStamp, keyBefore, goodTable, goodIds, goodSeat, goodQuiet, mayHaveHalves, goodReshape}
 use Rattle.rules.specs.Snapshot.{flagOf, kindWord, seatWords, reshapeWords, isOne}
 use Rattle.rules.proofs.Tests.{and-parts, and-joins, or-cases, or-left, or-right, all-parts, all-joins}
 use Rattle.tables.specs.Rows.{idTable}
@@ -23,10 +23,10 @@ use Rattle.shifts.proofs.Parts.{gets, gets-is, gets-all, between-length}
 use Rattle.board.specs.Layout.{seatWidth, seatsAt, leftAt, rightAt, reshapeWidth, seatTable, reshapeHead, reshapeRow}
 use Rattle.board.proofs.Widths.{seat-wide, reshape-wide}
 use Rattle.word_tests.specs.Tests.{at, between, allPass, anyPass, rises, idsOk}
-use Rattle.row_tests.specs.Rows.{seatOk, seatsOk, epochsOk, flagsOk, scheduledOk, halvesOk, reshapeOk}
+use Rattle.row_tests.specs.Rows.{seatOk, seatsOk, epochsOk, flagsOk, reshapeHeadOk, scheduledOk, halvesOk, reshapeOk}
 use Rattle.word_tests.proofs.Tests.{Some, pass-parts, pass-joins, any-cases, any-joins}
 use Rattle.word_tests.proofs.Decides.{Words, word-at, Held, Decides, ids-decides, table-decides}
-use Rattle.row_tests.proofs.Rows.{between-words, to-end, bit-back, bit-small, option-sound, option-complete}
+use Rattle.row_tests.proofs.Rows.{between-words, to-end, bit-back, bit-small, Optional, option-sound, option-complete}
 
 -- ---- seats
 
@@ -58,10 +58,16 @@ seat-complete : (g : ℕ) (e : Entry Seat) → goodSeat g e ≡ true → seatOk 
 unfolding seatOk seatWords goodSeat
 seat-complete g e h = pass-joins _ (eq-eqb _ _ (child-complete (e .val .child) g (and-parts _ _ h .1)), (bit-small (e .val .ready), tt))
 
-seats-decide : (g : ℕ) → Decides seatTable (goodTable mostSeats (goodSeat g)) (1 + mostSeats * seatWidth) (seatsOk g)
+pub seat-decides : (g : ℕ) → Decides seatWords (goodSeat g) seatWidth (seatOk g)
+seat-decides g = record { wide = seat-wide; sound = seat-sound g; complete = seat-complete g }
+
+-- a seat's first word says the order
+pub seat-says : (x y : Entry Seat) (a b : List ℕ) → rises false (seatWords x ++ a) (seatWords y ++ b) ≡ keyBefore x y
 unfolding seatWords allPass anyPass
-seats-decide g =
-    table-decides seatWords (goodSeat g) seatWidth (seatOk g) (record { wide = seat-wide; sound = seat-sound g; complete = seat-complete g }) keyBefore (rises false) (λ x y a b. or-false _) mostSeats
+seat-says x y a b = or-false _
+
+seats-decide : (g : ℕ) → Decides seatTable (goodTable mostSeats (goodSeat g)) (1 + mostSeats * seatWidth) (seatsOk g)
+seats-decide g = table-decides seatWords (goodSeat g) seatWidth (seatOk g) (seat-decides g) keyBefore (rises false) seat-says mostSeats
 
 -- ---- the kind, quiet and halves
 
@@ -114,7 +120,7 @@ scheduled-complete split none h = absurd (false≢true h)
 scheduled-complete split (some e) h = (refl, refl)
 scheduled-complete merge o h = absurd (false≢true h)
 
-abbrev GoodHalves : Kind → Option Epoch → List Id → List Id → Type 0
+abbrev pub GoodHalves : Kind → Option Epoch → List Id → List Id → Type 0
 GoodHalves k o l r = (mayHaveHalves k o or (isEmpty l and isEmpty r)) ≡ true
 
 halves-sound : (k f m n : ℕ) (o : Option Epoch) (l r : List Id) → flagOf o ≡ f → m ≡ length l → n ≡ length r → scheduledOk k f m n ≡ true → GoodHalves (kindOf k) o l r
@@ -128,7 +134,7 @@ halves-sound k f m n o l r e p q h = go (any-cases _ h)
         or-right _ _ (and-joins _ _ (empty-is l (sym p ∙ eqb-true m 0 (y .0))) (empty-is r (sym q ∙ eqb-true n 0 (y .1 .0))))
     go (inr (inr u)) = absurd u
 
-halves-complete : (k : Kind) (o : Option Epoch) (l r : List Id) (m n : ℕ) → m ≡ length l → n ≡ length r → GoodHalves k o l r → scheduledOk (kindWord k) (flagOf o) m n ≡ true
+pub halves-complete : (k : Kind) (o : Option Epoch) (l r : List Id) (m n : ℕ) → m ≡ length l → n ≡ length r → GoodHalves k o l r → scheduledOk (kindWord k) (flagOf o) m n ≡ true
 unfolding scheduledOk
 halves-complete k o l r m n p q h = go (or-cases _ _ h)
   where
@@ -155,73 +161,93 @@ first-of a e n t u h p =
     let s : a + 0 ≡ a = omega arith in
     ap (at t) (sym s) ∙ sym (getD-take (e - a) (drop a t) 0 0 h ∙ getD-drop a t 0 0) ∙ ap (λ (v : List ℕ). at v 0) p
 
-reshape-sound : (t : List ℕ) → Words t → length t ≡ reshapeWidth → reshapeOk t ≡ true → Held reshapeRow goodReshape t
-unfolding reshapeOk epochsOk flagsOk halvesOk reshapeRow reshapeHead reshapeWords goodReshape
-reshape-sound t ws l h =
+-- what the words before the seats tell
+pub record Fields (t : List ℕ) : Type 0 where
+  pub target : isTarget (at t 0) ≡ true
+  pub kind : at t 1 ≤ 1
+  pub admitted : isStamp (at t 2) ≡ true
+  pub drainBy : Optional (at t 3) (at t 4)
+  pub terminal : Optional (at t 5) (at t 6)
+  pub quietLeft : at t 7 ≤ 1
+  pub quietRight : at t 8 ≤ at t 1
+
+pub fields-sound : (t : List ℕ) → reshapeHeadOk t ≡ true → Fields t
+unfolding epochsOk flagsOk
+fields-sound t h =
     let z = pass-parts _ h in
     let y = pass-parts _ (z .0) in
     let x = pass-parts _ (z .1 .0) in
+    record {
+      target = y .0;
+      kind = leb-true _ _ (x .0);
+      admitted = y .1 .0;
+      drainBy = option-sound (at t 3) (at t 4) (y .1 .1 .0);
+      terminal = option-sound (at t 5) (at t 6) (y .1 .1 .1 .0);
+      quietLeft = leb-true _ _ (x .1 .0);
+      quietRight = leb-true _ _ (x .1 .1 .0);
+    }
+
+-- they pass whatever comes after them
+pub fields-complete : (e : Entry Reshape) (rest : List ℕ) → goodReshape e ≡ true → reshapeHeadOk (reshapeHead e ++ rest) ≡ true
+unfolding epochsOk flagsOk reshapeHead reshapeWords goodReshape
+fields-complete e rest g =
+    let p = all-parts _ g in
+    pass-joins _ (
+      pass-joins _ (p .0, (p .1 .0, (option-complete (e .val .drainBy) (p .1 .1 .0), (option-complete (e .val .terminal) (p .1 .1 .1 .0), tt)))),
+      (pass-joins _ (kind-small (e .val .kind), (bit-small (e .val .quietLeft), (quiet-complete (e .val .kind) (e .val .quietRight) (p .1 .1 .1 .1 .0), tt))), tt),
+    )
+
+-- the reshape of such words and of its lists
+module _ {t : List ℕ} (f : Fields t) (seats : Table Seat) (left right : List Id) where
+  abbrev pub reshapeOf : Entry Reshape
+  reshapeOf = entry (at t 0) (record {
+    kind = kindOf (at t 1);
+    admitted = at t 2;
+    drainBy = f .drainBy .value;
+    terminal = f .terminal .value;
+    quietLeft = isOne (at t 7);
+    quietRight = isOne (at t 8);
+    seats = seats;
+    left = left;
+    right = right;
+  })
+
+  pub head-is : gets 0 9 t ≡ reshapeHead reshapeOf
+  unfolding reshapeHead reshapeWords
+  head-is =
+      let q : at t 8 ≤ 1 = omega (arith, f .quietRight, f .kind) in
+      rw (kind-back (at t 1) (f .kind), f .drainBy .flag, f .drainBy .number, f .terminal .flag, f .terminal .number, bit-back (at t 7) (f .quietLeft), bit-back (at t 8) q)
+
+  pub reshape-good : {m n : ℕ} → goodTable mostSeats (goodSeat (at t 0)) seats ≡ true → goodIds mostHalf left ≡ true → goodIds mostHalf right ≡ true
+      → m ≡ length left → n ≡ length right → scheduledOk (at t 1) (at t 5) m n ≡ true → goodReshape reshapeOf ≡ true
+  unfolding goodReshape
+  reshape-good {m} {n} s a b p q h =
+      let halves = halves-sound (at t 1) (at t 5) m n (f .terminal .value) left right (f .terminal .flag) p q h in
+      all-joins _ (
+        f .target,
+        (f .admitted, (f .drainBy .fine, (f .terminal .fine, (quiet-sound (at t 1) (at t 8) (f .kind) (f .quietRight), (s, (a, (b, (halves, tt)))))))),
+      )
+
+reshape-sound : (t : List ℕ) → Words t → length t ≡ reshapeWidth → reshapeOk t ≡ true → Held reshapeRow goodReshape t
+unfolding reshapeOk halvesOk reshapeRow
+reshape-sound t ws l h =
+    let z = pass-parts _ h in
     let hs = pass-parts _ (z .1 .1 .1 .0) in
-    let d = option-sound (at t 3) (at t 4) (y .1 .1 .0) in
-    let e = option-sound (at t 5) (at t 6) (y .1 .1 .1 .0) in
-    let kind : at t 1 ≤ 1 = leb-true _ _ (x .0) in
-    let ql : at t 7 ≤ 1 = leb-true _ _ (x .1 .0) in
-    let qr : at t 8 ≤ at t 1 = leb-true _ _ (x .1 .1 .0) in
-    let qr' : at t 8 ≤ 1 = omega arith in
+    let f = fields-sound t (pass-joins _ (z .0, (z .1 .0, tt))) in
     let s = seats-decide (at t 0) .sound (between seatsAt leftAt t) (between-words seatsAt leftAt t ws) (between-length seatsAt leftAt t (omega arith)) (z .1 .1 .0) in
     let a = ids-decides mostHalf .sound (between leftAt rightAt t) (between-words leftAt rightAt t ws) (between-length leftAt rightAt t (omega arith)) (hs .0) in
     let b = ids-decides mostHalf .sound (between rightAt reshapeWidth t) (between-words rightAt reshapeWidth t ws) (between-length rightAt reshapeWidth t (omega arith)) (hs .1 .0) in
-    let v : Entry Reshape =
-    entry (at t 0) (record {
-      kind = kindOf (at t 1);
-      admitted = at t 2;
-      drainBy = d .value;
-      terminal = e .value;
-      quietLeft = isOne (at t 7);
-      quietRight = isOne (at t 8);
-      seats = s .value;
-      left = a .value;
-      right = b .value;
-    }) in
-    let nine : gets 0 9 t ≡ reshapeHead v = rw (kind-back (at t 1) kind, d .flag, d .number, e .flag, e .number, bit-back (at t 7) ql, bit-back (at t 8) qr') in
     record {
-      value = v;
+      value = reshapeOf f (s .value) (a .value) (b .value);
       words = gets-is 9 0 t (omega arith)
-          ∙ join nine (cut seatsAt leftAt t (omega arith)
+          ∙ join (head-is f (s .value) (a .value) (b .value)) (cut seatsAt leftAt t (omega arith)
           ∙ join (s .words) (cut leftAt rightAt t (omega arith) ∙ join (a .words) (sym (to-end rightAt reshapeWidth t (omega arith)) ∙ b .words)));
-      fine = all-joins _ (
-        y .0,
-        (
-          y .1 .0,
-          (
-            d .fine,
-            (
-              e .fine,
-              (
-                quiet-sound (at t 1) (at t 8) kind qr,
-                (
-                  s .fine,
-                  (
-                    a .fine,
-                    (
-                      b .fine,
-                      (
-                        halves-sound (at t 1) (at t 5) (at t leftAt) (at t rightAt) (e .value) (a .value) (b .value) (e .flag)
-                            (first-of leftAt rightAt _ t _ (omega arith) (a .words)) (first-of rightAt reshapeWidth _ t _ (omega arith) (b .words)) (hs .1 .1 .0),
-                        tt,
-                      ),
-                    ),
-                  ),
-                ),
-              ),
-            ),
-          ),
-        ),
-      );
+      fine = reshape-good f (s .value) (a .value) (b .value) (s .fine) (a .fine) (b .fine)
+          (first-of leftAt rightAt _ t _ (omega arith) (a .words)) (first-of rightAt reshapeWidth _ t _ (omega arith) (b .words)) (hs .1 .1 .0);
     }
 
 reshape-complete : (e : Entry Reshape) → goodReshape e ≡ true → reshapeOk (reshapeRow e) ≡ true
-unfolding reshapeOk epochsOk flagsOk halvesOk reshapeRow reshapeHead reshapeWords goodReshape
+unfolding reshapeOk halvesOk reshapeRow reshapeHead reshapeWords goodReshape
 reshape-complete e g =
     let p = all-parts _ g in
     let S = seatTable (e .val .seats) in
@@ -237,10 +263,11 @@ reshape-complete e g =
     let s : between seatsAt leftAt t ≡ S = take-at S (L ++ R) (leftAt - seatsAt) ls in
     let a : between leftAt rightAt t ≡ L = ap (take (rightAt - leftAt)) da ∙ take-at L R (rightAt - leftAt) la in
     let b : between rightAt reshapeWidth t ≡ R = to-end rightAt reshapeWidth t lt ∙ db in
+    let y = pass-parts _ (fields-complete e (S ++ (L ++ R)) g) in
     pass-joins _ (
-      pass-joins _ (p .0, (p .1 .0, (option-complete (e .val .drainBy) (p .1 .1 .0), (option-complete (e .val .terminal) (p .1 .1 .1 .0), tt)))),
+      y .0,
       (
-        pass-joins _ (kind-small (e .val .kind), (bit-small (e .val .quietLeft), (quiet-complete (e .val .kind) (e .val .quietRight) (p .1 .1 .1 .1 .0), tt))),
+        y .1 .0,
         (
           ap (seatsOk (e .key)) s ∙ seats-decide (e .key) .complete (e .val .seats) (p .1 .1 .1 .1 .1 .0),
           (

@@ -58,6 +58,10 @@ epochsOk t = allPass (isTarget (at t 0) ∷ isStamp (at t 2) ∷ optionOk (at t 
 unfoldable pub flagsOk : List ℕ → Bool
 flagsOk t = allPass (leb (at t 1) 1 ∷ leb (at t 7) 1 ∷ leb (at t 8) (at t 1) ∷ [])
 
+-- the words before the seats
+abbrev pub reshapeHeadOk : List ℕ → Bool
+reshapeHeadOk t = allPass (epochsOk t ∷ flagsOk t ∷ [])
+
 -- a split with a terminal, or both halves empty
 unfoldable pub scheduledOk : ℕ → ℕ → ℕ → ℕ → Bool
 scheduledOk kind flag left right = anyPass (allPass (eqb kind 0 ∷ eqb flag 1 ∷ []) ∷ allPass (eqb left 0 ∷ eqb right 0 ∷ []) ∷ [])

@@ -17,9 +17,9 @@ ghost use mathlib.Core.List.{[], _∷_};
 ghost use mathlib.Core.Bool.{false};
 ghost use Prim.Native.Nat.{_≤_};
 ghost use lib.ListN.{length};
-ghost use Rattle.board.specs.Layout.{machineWidth, committeeWidth, boundaryWidth, rotationWidth, seatWidth, reshapeWidth};
+ghost use Rattle.board.specs.Layout.{machineWidth, committeeWidth, boundaryWidth, rotationWidth, seatWidth, seatsAt, reshapeWidth};
 ghost use Rattle.word_tests.specs.Tests.{at, markCount, rises, firstOk};
-ghost use Rattle.row_tests.specs.Rows.{machineOk, committeeOk, optionOk, boundaryOk, rotationOk, seatOk, seatsOk, epochsOk, flagsOk, halvesOk, reshapeOk, rowOk, widthOf};
+ghost use Rattle.row_tests.specs.Rows.{machineOk, committeeOk, optionOk, boundaryOk, rotationOk, seatOk, seatsOk, epochsOk, flagsOk, reshapeHeadOk, scheduledOk, halvesOk, reshapeOk, rowOk, widthOf};
 
 // ---- The ranges of rules/specs/Board.antt
 
@@ -92,7 +92,7 @@ fn option_ok(f: u64, v: u64) -> bool
 }
 
 // Shard, height, formed, last live, then terminal and admitted, each a flag and an epoch; a height is any word.
-fn boundary_ok(t: &[u64]) -> bool
+pub fn boundary_ok(t: &[u64]) -> bool
     requires { ⌜ length (now t) ≡ boundaryWidth ⌝ }
     ensures { λ r. ⌜ r ≡ boundaryOk (now (t .entry)) ⌝ }
 {
@@ -114,7 +114,7 @@ fn rotation_ok(t: &[u64]) -> bool
 // ---- Reshapes
 
 // Id, child, ready. The child is halved, and the target not doubled: it may be any number yet.
-fn seat_ok(target: u64, t: &[u64]) -> bool
+pub fn seat_ok(target: u64, t: &[u64]) -> bool
     requires { ⌜ length (now t) ≡ seatWidth ⌝ }
     ensures { λ r. ⌜ r ≡ seatOk target (now (t .entry)) ⌝ }
 {
@@ -152,7 +152,7 @@ fn seats_ok(target: u64, t: &[u64]) -> bool
 
 // Target, admitted, drain-by and terminal.
 fn epochs_ok(t: &[u64]) -> bool
-    requires { ⌜ length (now t) ≡ reshapeWidth ⌝ }
+    requires { ⌜ seatsAt ≤ length (now t) ⌝ }
     ensures { λ r. ⌜ r ≡ epochsOk (now (t .entry)) ⌝ }
 {
     word_tests::inside(1, LAST_TARGET, t[0])
@@ -163,10 +163,25 @@ fn epochs_ok(t: &[u64]) -> bool
 
 // Kind, quiet left and quiet right: the last is at most the kind, so 0 for a split.
 fn flags_ok(t: &[u64]) -> bool
-    requires { ⌜ length (now t) ≡ reshapeWidth ⌝ }
+    requires { ⌜ seatsAt ≤ length (now t) ⌝ }
     ensures { λ r. ⌜ r ≡ flagsOk (now (t .entry)) ⌝ }
 {
     (t[1] <= 1) & (t[7] <= 1) & (t[8] <= t[1])
+}
+
+// The words before the seats, whatever comes after them.
+pub fn reshape_head_ok(t: &[u64]) -> bool
+    requires { ⌜ seatsAt ≤ length (now t) ⌝ }
+    ensures { λ r. ⌜ r ≡ reshapeHeadOk (now (t .entry)) ⌝ }
+{
+    epochs_ok(t) & flags_ok(t)
+}
+
+// A split with a terminal, or halves of no ids.
+pub fn scheduled_ok(kind: u64, flag: u64, left: u64, right: u64) -> bool
+    ensures { λ r. ⌜ r ≡ scheduledOk kind flag left right ⌝ }
+{
+    ((kind == 0) & (flag == 1)) | ((left == 0) & (right == 0))
 }
 
 // Distinct ids, and none unless a split has its terminal.
@@ -177,14 +192,14 @@ fn halves_ok(t: &[u64]) -> bool
     let mut marks: [u8; MARKS] = [0; MARKS];
     let left = word_tests::ids_ok(&mut marks, 1, MOST_HALF, &t[LEFT_AT..RIGHT_AT]);
     let right = word_tests::ids_ok(&mut marks, 2, MOST_HALF, &t[RIGHT_AT..RESHAPE_WIDTH]);
-    left & right & (((t[1] == 0) & (t[5] == 1)) | ((t[LEFT_AT] == 0) & (t[RIGHT_AT] == 0)))
+    left & right & scheduled_ok(t[1], t[5], t[LEFT_AT], t[RIGHT_AT])
 }
 
 fn reshape_ok(t: &[u64]) -> bool
     requires { ⌜ length (now t) ≡ reshapeWidth ⌝ }
     ensures { λ r. ⌜ r ≡ reshapeOk (now (t .entry)) ⌝ }
 {
-    epochs_ok(t) & flags_ok(t) & seats_ok(t[0], &t[SEATS_AT..LEFT_AT]) & halves_ok(t)
+    reshape_head_ok(t) & seats_ok(t[0], &t[SEATS_AT..LEFT_AT]) & halves_ok(t)
 }
 
 // ---- Any kind of rows

@@ -37,7 +37,7 @@ ghost use lib.ListN.{length, getD, drop};
 ghost use Rattle.rules.specs.Board.{Board};
 ghost use Rattle.rules.specs.Snapshot.{snapshotOf};
 ghost use Rattle.rules.specs.WellFormed.{wellFormed};
-ghost use Rattle.board.specs.Layout.{machineWidth, committeeWidth, reshapeWidth, machinesAt, boardSize, encode};
+ghost use Rattle.board.specs.Layout.{committeeWidth, reshapeWidth, machinesAt, boardSize, encode};
 ghost use Rattle.packing.specs.Packed.{flat, committee, reshape};
 ghost use Rattle.row_tests.specs.Rows.{widthOf};
 ghost use Rattle.unpacking.specs.AsWords.{AsWords};
@@ -149,18 +149,6 @@ pub fn unpack_row(k: RowKind, bytes: &[u8], at: usize, out: &mut [u64]) -> usize
     ensures { λ r. ⌜ ((ws : List ℕ) → AsWords (now (bytes .entry)) ws → RowRead k ws (now (out .exit)) at r) ⌝ }
 {
     let r = unpack_kind(k, bytes, at, out);
-    if bytes.len() / 8 < r {
-        return 0;
-    }
-    r
-}
-
-// The same of a machine, whose kind is then not looked for.
-pub fn unpack_machine(bytes: &[u8], at: usize, out: &mut [u64]) -> usize
-    requires { ⌜ length (now out) ≡ machineWidth ⌝ }
-    ensures { λ r. ⌜ ((ws : List ℕ) → AsWords (now (bytes .entry)) ws → RowRead RowKind.Machines ws (now (out .exit)) at r) ⌝ }
-{
-    let r = unpack_words(bytes, at, out);
     if bytes.len() / 8 < r {
         return 0;
     }

@@ -1,11 +1,11 @@
-use Rattle.word_tests.specs.Tests.{allPass, anyPass}
-use Rattle.row_tests.specs.Rows.{halvesOk, scheduledOk}
+use Rattle.word_tests.specs.Tests.{allPass}
+use Rattle.row_tests.specs.Rows.{halvesOk}
 use borrow.Author.Needs.{needs}
 use Rattle.row_tests.proofs.halves_ok.Statement.{statement}
 use Rattle.row_tests.proofs.halves_ok.Tie as tie
 
 returns : tie.Need-returns
-unfolding halvesOk scheduledOk allPass anyPass
+unfolding halvesOk allPass
 returns c = cc
 
 pub halves-ok-spec : {M : Type 1} → statement M
@@ -26,4 +26,5 @@ halves-ok-spec =
     (λ c. search needs)
     (λ c. search needs)
     (λ c. search needs)
+    (λ c κs. search needs)
     returns)

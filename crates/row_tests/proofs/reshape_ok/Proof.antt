@@ -4,11 +4,8 @@ use borrow.Author.Needs.{needs}
 use Rattle.row_tests.proofs.reshape_ok.Statement.{statement}
 use Rattle.row_tests.proofs.reshape_ok.Tie as tie
 
-epochs-ok-requires : tie.Need-epochs-ok-requires
-epochs-ok-requires c κs = search needs
-
-flags-ok-requires : tie.Need-flags-ok-requires
-flags-ok-requires c κs = search needs
+reshape-head-ok-requires : tie.Need-reshape-head-ok-requires
+reshape-head-ok-requires c κs = search needs
 
 shared-slice-read-seats-ok : tie.Need-shared-slice-read-seats-ok
 shared-slice-read-seats-ok c = search needs
@@ -36,8 +33,7 @@ pub reshape-ok-spec : {M : Type 1} → statement M
 reshape-ok-spec =
     tie.close
     (tie.spec
-    epochs-ok-requires
-    flags-ok-requires
+    reshape-head-ok-requires
     shared-slice-read-seats-ok
     sub-seats-ok
     part-seats-ok-start
