@@ -24,11 +24,11 @@ ghost use mathlib.Core.Path.{_≡_};
 ghost use mathlib.Core.Bool.{false};
 ghost use Prim.Native.Nat.{_≤_};
 ghost use lib.ListN.{length};
-ghost use Rattle.rules.specs.Board.{mostMachines, mostCommittees};
-ghost use Rattle.board.specs.Layout.{machineWidth, committeeWidth, machinesAt, boardSize};
+ghost use Rattle.rules.specs.Board.{mostMachines, mostCommittees, mostBounds};
+ghost use Rattle.board.specs.Layout.{machineWidth, committeeWidth, boundaryWidth, machinesAt, boardSize};
 ghost use Rattle.word_tests.specs.Tests.{markCount, rises, firstOk};
-ghost use Rattle.row_tests.specs.declared.RowKind.the-variants.{Machines, Committees};
-ghost use Rattle.row_tests.specs.Rows.{machineOk, committeeOk, rowOk, inPairs, widthOf, Shape, kindOk};
+ghost use Rattle.row_tests.specs.declared.RowKind.the-variants.{Machines, Committees, Boundaries};
+ghost use Rattle.row_tests.specs.Rows.{machineOk, committeeOk, boundaryOk, rowOk, inPairs, widthOf, Shape, kindOk};
 ghost use Rattle.wellformed.specs.Tells.{Tells};
 ghost use Rattle.wellformed.specs.Check.{numbersOk, settingsOk, shardsOk, underwayOk};
 
@@ -110,6 +110,41 @@ fn machines_ok(t: &[u64]) -> bool
     word_tests::all_zero(&t[a..])
 }
 
+// The same of boundaries: on a ward's board they are the next most.
+fn first_boundary_ok(n: usize, t: &[u64]) -> bool
+    ensures { λ r. ⌜ r ≡ firstOk boundaryOk (rises false) boundaryWidth n (now (t .entry)) ⌝ }
+{
+    if t.len() < BOUNDARY_WIDTH {
+        return false;
+    }
+    if !row_tests::boundary_ok(&t[..BOUNDARY_WIDTH]) {
+        return false;
+    }
+    if n == 1 {
+        return true;
+    }
+    word_tests::rises(false, t, &t[BOUNDARY_WIDTH..])
+}
+
+fn boundaries_ok(t: &[u64]) -> bool
+    requires { ⌜ 1 ≤ length (now t) ⌝ }
+    ensures { λ r. ⌜ r ≡ kindOk Boundaries mostBounds (now (t .entry)) ⌝ }
+{
+    let mut n = t[0] as usize;
+    if MOST_BOUNDS < n {
+        return false;
+    }
+    let mut a: usize = 1;
+    while 0 < n {
+        if !first_boundary_ok(n, &t[a..]) {
+            return false;
+        }
+        a += BOUNDARY_WIDTH;
+        n -= 1;
+    }
+    word_tests::all_zero(&t[a..])
+}
+
 // The same of committees: they share their marks, and each has its own stamp.
 fn first_committee_ok(n: usize, marks: &mut [u8], t: &[u64]) -> bool
     requires { ⌜ length (now marks) ≡ markCount ⌝ }
@@ -181,9 +216,7 @@ fn shards_ok(board: &[u64]) -> bool
     requires { ⌜ length (now board) ≡ boardSize ⌝ }
     ensures { λ r. ⌜ r ≡ shardsOk (now (board .entry)) ⌝ }
 {
-    let b = &board[BOUNDS_AT..ROTATIONS_AT];
-    committees_ok(&board[COMMITTEES_AT..BOUNDS_AT])
-        & table_ok(RowKind::Boundaries, BOUNDARY_WIDTH, false, MOST_BOUNDS, b)
+    committees_ok(&board[COMMITTEES_AT..BOUNDS_AT]) & boundaries_ok(&board[BOUNDS_AT..ROTATIONS_AT])
 }
 
 // What is under way: rotations and reshapes.

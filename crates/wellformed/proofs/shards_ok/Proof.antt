@@ -4,7 +4,7 @@ use Rattle.wellformed.proofs.shards_ok.Statement.{statement}
 use Rattle.wellformed.proofs.shards_ok.Tie as tie
 
 returns : tie.Need-returns
-returns c = shards-are _ _ _ (c .before .committees-ok .ensures) (c .table-ok .ensures)
+returns c = shards-are _ _ _ (c .before .before .committees-ok .ensures) (c .boundaries-ok .ensures)
 
 pub shards-ok-spec : {M : Type 1} → statement M
 shards-ok-spec =
@@ -13,9 +13,9 @@ shards-ok-spec =
     (λ c. search needs)
     (λ c. search needs)
     (λ c. search needs)
-    (λ c. search needs)
-    (λ c. search needs)
-    (λ c. search needs)
     (λ c κs. search needs)
+    (λ c. search needs)
+    (λ c. search needs)
+    (λ c. search needs)
     (λ c κs. search needs)
     returns)
