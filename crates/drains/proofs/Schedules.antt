@@ -3,8 +3,9 @@ use Prim.Native.Nat.{ℕ, _+_, _≤_, _<_}
 use mathlib.Core.Path.{_≡_, refl, ap, _∙_}
 use mathlib.Core.List.{List, [], _∷_}
 use mathlib.Core.Option.{none}
-use mathlib.Core.Bool.{true}
+use mathlib.Core.Bool.{true, cond}
 use native.Mathlib.Omega.{arith}
+use lib.Dec.{eqb}
 use lib.ListN.{length, getD}
 use lib.Seq.{getD-set-same, set-set}
 use Rattle.types.specs.Numbers.{Shard, Id, Epoch}
@@ -14,12 +15,16 @@ use Rattle.rules.specs.Board.{Boundary, Kind, split, merge, Reshape, Board, las
 use Rattle.rules.specs.WellFormed.{isStamp, wellFormed}
 use Rattle.rules.specs.Moves.{forAll, withDrainBy, withTerminal, oldShards, markedBoundary}
 use Rattle.rules.specs.Schedule.{scheduled, drainEnd}
+use Rattle.rules.proofs.Tables.{at-each}
+use Rattle.rules.proofs.KeptTables.{length-each}
 use Rattle.rules.proofs.KeptBoard.{limits, good-of, of-good, fit-at, stamp}
 use Rattle.rules.proofs.KeptMoves.{good-marked}
 use Rattle.tables.proofs.Keys.{at-is, update-none}
 use Rattle.board.specs.Held.{Holds, noBoundary, noReshape}
 use Rattle.board.specs.Leaves.{changeAt}
 use Rattle.board.proofs.Keyed.{update-is-change, bounds-rise, reshapes-rise}
+use Rattle.rows.specs.Found.{Found}
+use Rattle.joining.proofs.Struck.{key-each}
 use Rattle.reshapes.specs.Changes.{withLeft, withRight, atTerminal}
 use Rattle.drains.specs.Plans.{RowOf}
 
@@ -49,6 +54,14 @@ module _ (b : Board) (s : Shard) (f : Boundary → Boundary) (after : List ℕ) 
 
   pub marked-none : at s (b .bounds) ≡ none → Holds after b → Holds after (onBounds (update s f) b)
   marked-none n h = rw (update-none s f (b .bounds) n) h
+
+-- a row that was found is found where values have changed
+pub found-updated : {A : Type 0} (most k s : ℕ) (f : A → A) (d : Entry A) (t : Table A) (r : ℕ) → Found most k d t r → Found most k d (update s f t) r
+unfolding update
+found-updated {A} most k s f d t r g = record { inside = λ h. rw (length-each u t) (g .inside h); named = λ h. key-each u t r d ∙ g .named h; missing = λ h. at-each u k t ∙ rw (g .missing h) }
+  where
+    u : ℕ → A → A
+    u j v = cond (eqb j s) (f v) v
 
 module _ (b : Board) (t : Shard) (k : Kind) (f : Boundary → Boundary) (after : List ℕ) where
   pub marked-both : k ≡ merge → Holds after (onBounds (update (rightOf t) f) (onBounds (update (leftOf t) f) b)) → Holds after (forAll (λ s. onBounds (update s f)) (oldShards k t) b)

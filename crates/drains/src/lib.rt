@@ -18,12 +18,13 @@ ghost use lib.ListN.{length, getD};
 ghost use Rattle.types.specs.Numbers.{Shard};
 ghost use Rattle.types.specs.Shards.{quorum};
 ghost use Rattle.rules.specs.Table.{update, countWhere};
-ghost use Rattle.rules.specs.Board.{Board, mostReshapes, mostSeats, lastEpoch, lastTarget, onBounds, onReshapes, sizeOf};
+ghost use Rattle.rules.specs.Board.{Board, mostBounds, mostReshapes, mostSeats, lastEpoch, lastTarget, onBounds, onReshapes, sizeOf};
 ghost use Rattle.rules.specs.WellFormed.{isStamp, wellFormed};
 ghost use Rattle.rules.specs.Moves.{forAll, withDrainBy, oldShards, markedBoundary};
 ghost use Rattle.rules.specs.Schedule.{isQuiet, scheduled, drainEnd};
 ghost use Rattle.board.specs.Layout.{boardSize};
-ghost use Rattle.board.specs.Held.{Holds, noReshape, noSeat};
+ghost use Rattle.board.specs.Held.{Holds, noBoundary, noReshape, noSeat};
+ghost use Rattle.rows.specs.Found.{Found};
 ghost use Rattle.drains.specs.Plans.{RowOf, countsSeat, planOf};
 
 // ---- ready seats
@@ -139,12 +140,12 @@ pub fn stamp(board: &mut [u64], i: usize)
     fields::set_drain_by(board, i, by);
 }
 
-fn mark_bound(board: &mut [u64], shard: ShardId, terminal: Epoch, admitted: Epoch)
+// The boundary at row k, which was found for the shard; none where there is none.
+fn mark_found(board: &mut [u64], k: usize, terminal: Epoch, admitted: Epoch)
     requires { ⌜ length (now board) ≡ boardSize ⌝ }
-    ensures { λ _. ⌜ ((b : Board) → Holds (now (board .entry)) b → wellFormed b ≡ true →
-        Holds (now (board .exit)) (onBounds (update (shard .0) (markedBoundary (terminal .0) (admitted .0))) b)) ⌝ }
+    ensures { λ _. ⌜ ((b : Board) → Holds (now (board .entry)) b → wellFormed b ≡ true → (s : Shard) → Found mostBounds s noBoundary (b .bounds) k →
+        Holds (now (board .exit)) (onBounds (update s (markedBoundary (terminal .0) (admitted .0))) b)) ⌝ }
 {
-    let k = rows::bound_row(board, shard);
     if k < MOST_BOUNDS {
         bounds::mark(board, k, terminal, admitted);
     }
@@ -158,11 +159,14 @@ fn mark_bounds(board: &mut [u64], target: ShardId, i: usize, terminal: Epoch, ad
 {
     let merging = fields::is_merge(board, i);
     if merging {
-        mark_bound(board, target.left(), terminal, admitted);
-        mark_bound(board, target.right(), terminal, admitted);
+        let left = rows::bound_row(board, target.left());
+        let right = rows::bound_beside(board, left, target.right());
+        mark_found(board, left, terminal, admitted);
+        mark_found(board, right, terminal, admitted);
         return;
     }
-    mark_bound(board, target, terminal, admitted);
+    let own = rows::bound_row(board, target);
+    mark_found(board, own, terminal, admitted);
 }
 
 // The reshape at i gets its terminal, and no halves; the boundaries are marked.

@@ -85,7 +85,11 @@ pub fn bounds_stand(board: &[u64], merging: bool, target: ShardId) -> bool
     ensures { λ r. ⌜ ((b : Board) → Holds (now (board .entry)) b → wellFormed b ≡ true → r ≡ boundsStand (kindOf merging) (target .0) b) ⌝ }
 {
     if merging {
-        return has_bound(board, target.left()) & has_bound(board, target.right());
+        let left = rows::bound_row(board, target.left());
+        if MOST_BOUNDS <= left {
+            return false;
+        }
+        return rows::bound_after(board, left, target.right()) < MOST_BOUNDS;
     }
     has_bound(board, target)
 }

@@ -45,7 +45,7 @@ module _ {A : Type 0} where
           rw (eq-eqb (e .key) x (sym p), z (e .val), hidden) (ap (keysWhere f) (update-none x g t (at-below x (suc (e .key)) t (r .1) (omega arith))))
       go (apart p q) ih = rw (ne-eqb (e .key) x (λ o. p (sym o)), ih (rw (holdsAt, q) at h))
 
-  key-each : (f : ℕ → A → A) (t : Table A) (i : ℕ) (d : Entry A) → getD (each f t) i d .key ≡ getD t i d .key
+  pub key-each : (f : ℕ → A → A) (t : Table A) (i : ℕ) (d : Entry A) → getD (each f t) i d .key ≡ getD t i d .key
   unfolding each
   key-each f [] i d = refl
   key-each f (e ∷ t) zero d = refl

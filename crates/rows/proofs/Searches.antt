@@ -1,5 +1,5 @@
 -- What a search tells: the row of a key, or that nothing stands at it.
-use Prim.Native.Nat.{ℕ, _≤_}
+use Prim.Native.Nat.{ℕ, _+_, _≤_, _<_}
 use mathlib.Core.Path.{_≡_, refl, sym, _∙_}
 use mathlib.Core.List.{[], _∷_}
 use mathlib.Core.Option.{none}
@@ -7,12 +7,12 @@ use mathlib.Core.Bool.{Bool, true, false}
 use native.Mathlib.Omega.{arith}
 use borrow.Author.Tests.{ltb-true, ltb-false}
 use lib.Dec.{eqb, ltb}
-use lib.ListN.{length}
+use lib.ListN.{length, getD}
 use Rattle.rules.specs.Table.{Entry, Table, at}
 use Rattle.rules.proofs.Counts.{Alike, same, apart, alike}
 use Rattle.rules.proofs.Tests.{eq-of}
-use Rattle.tables.specs.Rows.{firstWhere, rowOf, keyOf}
-use Rattle.tables.proofs.Keys.{first-passes}
+use Rattle.tables.specs.Rows.{Rising, firstWhere, rowOf, keyOf}
+use Rattle.tables.proofs.Keys.{first-passes, next-is-none}
 use Rattle.rows.specs.Found.{Found}
 
 module _ {A : Type 0} (k : ℕ) where
@@ -41,3 +41,11 @@ module _ {A : Type 0} (k : ℕ) where
           let l = ltb-false (firstWhere f t) (length t) e in
           let s : r ≡ most = is ∙ rw e in
           record { inside = λ h. absurd (omega arith); named = λ h. absurd (omega arith); missing = λ h. none-passes t l }
+
+-- the row after that of the key before: it is the key's, or the key has none
+module _ {A : Type 0} (t : Table A) (rise : Rising keyOf t) (most k i : ℕ) (d : Entry A) (l : i < length t) (e : getD t i d .key + 1 ≡ k) where
+  pub after-here : i + 1 < length t → getD t (i + 1) d .key ≡ k → length t ≤ most → Found most k d t (i + 1)
+  after-here h q room = record { inside = λ m. h; named = λ m. q; missing = λ m. absurd (omega arith) }
+
+  pub after-none : (i + 1 < length t → getD t (i + 1) d .key ≡ k → ⊥) → Found most k d t most
+  after-none n = record { inside = λ m. absurd (omega arith); named = λ m. absurd (omega arith); missing = λ m. next-is-none t rise k i d l e n }

@@ -16,13 +16,15 @@ use board::layout::RESHAPES_AT;
 use board::layout::ROTATIONS_AT;
 use board::machines;
 use reshapes::seats;
+use shards::bounds;
 use types::Place;
 use types::ShardId;
 use types::ValidatorId;
 ghost use mathlib.Core.Path.{_≡_};
 ghost use mathlib.Core.Bool.{Bool, true, false};
-ghost use Prim.Native.Nat.{_<_};
+ghost use Prim.Native.Nat.{_+_, _<_};
 ghost use lib.ListN.{length, getD};
+ghost use Rattle.types.specs.Numbers.{Shard};
 ghost use Rattle.types.specs.declared.Place as declared;
 ghost use Rattle.rules.specs.Board.{Board, mostMachines, mostCommittees, mostBounds, mostReshapes, mostSeats};
 ghost use Rattle.rules.specs.WellFormed.{isTarget, wellFormed};
@@ -88,6 +90,38 @@ pub fn bound_row(board: &[u64], shard: ShardId) -> usize
         MOST_BOUNDS,
         shard.0,
     )
+}
+
+// As `bound_row`, of the shard after the one whose row is i: a child's sibling has the next row, or none.
+pub fn bound_after(board: &[u64], i: usize, shard: ShardId) -> usize
+    requires { ⌜ (length (now board) ≡ boardSize) × (i < mostBounds) ⌝ }
+    ensures { λ r. ⌜ ((b : Board) → Holds (now (board .entry)) b → wellFormed b ≡ true → i < length (b .bounds) → getD (b .bounds) i noBoundary .key + 1 ≡ shard .0 →
+        Found mostBounds (shard .0) noBoundary (b .bounds) r) ⌝ }
+{
+    let j = i + 1;
+    if bounds::count(board) <= j {
+        return MOST_BOUNDS;
+    }
+    if MOST_BOUNDS <= j {
+        return MOST_BOUNDS;
+    }
+    let next = bounds::shard_at(board, j);
+    if next.0 == shard.0 {
+        return j;
+    }
+    MOST_BOUNDS
+}
+
+// The same, where i was found for the shard before and may be past every row.
+pub fn bound_beside(board: &[u64], i: usize, shard: ShardId) -> usize
+    requires { ⌜ length (now board) ≡ boardSize ⌝ }
+    ensures { λ r. ⌜ ((b : Board) → Holds (now (board .entry)) b → wellFormed b ≡ true → (s : Shard) → Found mostBounds s noBoundary (b .bounds) i → s + 1 ≡ shard .0 →
+        Found mostBounds (shard .0) noBoundary (b .bounds) r) ⌝ }
+{
+    if i < MOST_BOUNDS {
+        return bound_after(board, i, shard);
+    }
+    bound_row(board, shard)
 }
 
 // The row of the target's reshape; 8, past every row, where there is none.

@@ -25,6 +25,14 @@ pub fn count(ws: &[u64]) -> usize
     ws[BOUNDS_AT] as usize
 }
 
+pub fn shard_at(ws: &[u64], i: usize) -> ShardId
+    requires { ⌜ (length (now ws) ≡ boardSize) × (i < mostBounds) ⌝ }
+    ensures { λ r. ⌜ ((b : Board) → Holds (now (ws .entry)) b → i < length (b .bounds) → r .0 ≡ getD (b .bounds) i noBoundary .key) ⌝ }
+{
+    let a = BOUNDS_AT + 1 + i * BOUNDARY_WIDTH;
+    ShardId(ws[a])
+}
+
 pub fn height_at(ws: &[u64], i: usize) -> BlockHeight
     requires { ⌜ (length (now ws) ≡ boardSize) × (i < mostBounds) ⌝ }
     ensures { λ r. ⌜ ((b : Board) → Holds (now (ws .entry)) b → i < length (b .bounds) → r .0 ≡ getD (b .bounds) i noBoundary .val .height) ⌝ }

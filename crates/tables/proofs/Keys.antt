@@ -6,7 +6,7 @@ use mathlib.Core.Option.{none, some, Option·none-ne-some}
 use mathlib.Core.Bool.{Bool, true, false, cond}
 use native.Mathlib.Omega.{arith}
 use native.Mathlib.Numerals.{add-one}
-use borrow.Author.Tests.{ltb-true, lt-ltb, le-ltb, le-leb, lt-leb, leb-true, leb-false, eq-eqb, ne-eqb}
+use borrow.Author.Tests.{ltb-true, ltb-false, lt-ltb, le-ltb, le-leb, lt-leb, leb-true, leb-false, eq-eqb, ne-eqb}
 use lib.Dec.{eqb, leb, ltb}
 use lib.ListN.{length, getD, set, drop, drop-of-length-le}
 use lib.Seq.{drop-cons}
@@ -119,6 +119,16 @@ module _ {A : Type 0} (key : A → ℕ) where
       go : (c : Bool) → placeOf key k l ≤ i → cond c 0 (suc (placeOf key k l)) ≤ suc i
       go true p = omega arith
       go false p = omega arith
+
+  pub keys-rise : (l : List A) (i j : ℕ) (d : A) → Rising key l → i < j → j < length l → key (getD l i d) < key (getD l j d)
+  keys-rise l i j d r h m = go (ltb (key (getD l i d)) (key (getD l j d))) refl
+    where
+      go : (c : Bool) → ltb (key (getD l i d)) (key (getD l j d)) ≡ c → key (getD l i d) < key (getD l j d)
+      go true e = ltb-true _ _ e
+      go false e =
+          let u = place-under l i d (key (getD l j d)) (omega arith) (ltb-false _ _ e) in
+          let v = place-least l j d (key (getD l j d)) r m refl in
+          absurd (omega arith)
 
   -- a search for the row of a key: on which side of row m it is
   module _ (l : List A) (m i : ℕ) (d : A) (k : ℕ) (r : Rising key l) (lm : m < length l) (li : i < length l) (e : key (getD l i d) ≡ k) where
@@ -282,6 +292,18 @@ module _ {A : Type 0} (t : Table A) (r : Rising keyOf t) where
 
   pub at-is-none : (k : ℕ) (d : Entry A) → (placeOf keyOf k t < length t → getD t (placeOf keyOf k t) d .key ≡ k → ⊥) → at k t ≡ none
   at-is-none k d z = at-gone k 0 t d (rising-table t r) z
+
+  -- the key after one that has a row: in the next row, or nowhere
+  pub next-is-none : (k i : ℕ) (d : Entry A) → i < length t → getD t i d .key + 1 ≡ k → (i + 1 < length t → getD t (i + 1) d .key ≡ k → ⊥) → at k t ≡ none
+  next-is-none k i d h e n = at-is-none k d (λ m q. go m q (alike (placeOf keyOf k t) (i + 1)))
+    where
+      go : placeOf keyOf k t < length t → getD t (placeOf keyOf k t) d .key ≡ k → Alike (placeOf keyOf k t) (i + 1) → ⊥
+      go m q (same p u) = n (omega arith) (rw (← p) q)
+      go m q (apart p u) =
+          let a = place-above keyOf t i d k r h (omega arith) in
+          let x = keys-rise keyOf t i (i + 1) d r (omega arith) (omega arith) in
+          let y = keys-rise keyOf t (i + 1) (placeOf keyOf k t) d r (omega arith) m in
+          omega arith
 
   pub put-is-insertAt : (k : ℕ) (v : A) → at k t ≡ none → put k v t ≡ insertAt t (placeOf keyOf k t) (entry k v)
   put-is-insertAt k v q = put-gone k v 0 t (rising-table t r) q

@@ -4,7 +4,7 @@ use mathlib.Core.Path.{_≡_, refl, ap, sym, _∙_}
 use mathlib.Core.List.{List, [], _∷_, _++_, append-assoc, append-nil}
 use native.Mathlib.Omega.{arith}
 use native.Mathlib.Nat.{zero-mul, mul-le-mul-right}
-use lib.ListN.{length, getD, set, take, drop, replicate, length-append, length-drop, length-replicate, length-set, take-append-drop, replicate-append-replicate}
+use lib.ListN.{length, getD, set, take, drop, drop-of-length-le, replicate, length-append, length-drop, length-replicate, length-set, take-append-drop, replicate-append-replicate}
 use lib.Seq.{set-getD, take-append-add, set-split, split-at, length-take-le}
 use Rattle.rules.specs.Snapshot.{rowsWords}
 use Rattle.tables.specs.Rows.{pad, table, insertAt, removeAt, Row}
@@ -152,22 +152,42 @@ module _ {A : Type 0} (f : A → List ℕ) (w : ℕ) (fw : (x : A) → length (f
       mid-put [] F Z t v 0 (1 + n * w - 0) s refl d ∙ ap (λ (y : List ℕ). y ++ Z) (z ∙ ap (λ (k : ℕ). replicate k 0) m)
       ∙ replicate-append-replicate {A = ℕ} (1 + n * w - 0) ((cap - length xs) * w) 0 ∙ ap (λ (k : ℕ). replicate k 0) both
 
+  -- no rows: all is zeros
+  pub empty-already : length xs ≡ 0 → t ≡ replicate (length t) 0
+  empty-already z = go xs z e
+    where
+      go : (ys : List A) → length ys ≡ 0 → t ≡ table f w cap ys → t ≡ replicate (length t) 0
+      go [] q s = s ∙ none-words f w cap ∙ ap (λ (k : ℕ). replicate k 0) (sym (ap length s ∙ table-length f w cap []))
+      go (y ∷ ys) q s = absurd (omega arith)
+
   module _ (j : ℕ) (u : List ℕ) where
-    -- what `open_gap` ensures, and the store of the count after it
+    abbrev Opened : Type 0
+    Opened = u ≡ (length xs ∷ rowsWords f (take j xs)) ++ (replicate w 0 ++ (rowsWords f (drop j xs) ++ replicate ((cap - suc (length xs)) * w) 0))
+
+    -- the store of the count, after a gap or where the row is the last
+    count-stored : length xs < cap → j ≤ length xs → (z : A) → f z ≡ replicate w 0 → Opened → set u 0 (getD t 0 0 + 1) ≡ table f w cap (insertAt xs j z)
+    count-stored h l z fz q =
+        let O : List ℕ = replicate w 0 ++ (rowsWords f (drop j xs) ++ replicate ((cap - suc (length xs)) * w) 0) in
+        ap (λ (x : List ℕ). set x 0 (getD t 0 0 + 1)) q
+        ∙ ap (λ (x : ℕ). ((x + 1) ∷ rowsWords f (take j xs)) ++ O) counted
+        ∙ insert-to f w fw cap xs j l h z (replicate w 0) (sym fz)
+
+    -- what `open_gap` ensures
     pub open-words : length xs < cap → j ≤ length xs → (z : A) → f z ≡ replicate w 0
         → ((P R G Z : List ℕ) → t ≡ P ++ (R ++ (G ++ Z)) → length P ≡ 1 + j * w → 1 + j * w + length R ≡ 1 + getD t 0 0 * w → length G ≡ w
         → u ≡ P ++ (replicate w 0 ++ (R ++ Z)))
         → set u 0 (getD t 0 0 + 1) ≡ table f w cap (insertAt xs j z)
     open-words h l z fz g =
-        let P : List ℕ = length xs ∷ rowsWords f (take j xs) in
-        let R : List ℕ = rowsWords f (drop j xs) in
-        let Z : List ℕ = replicate ((cap - suc (length xs)) * w) 0 in
-        let q : u ≡ P ++ (replicate w 0 ++ (R ++ Z)) =
-        g P R (replicate w 0) Z (e ∙ insert-from f w fw cap xs j h) (fore f w fw cap xs j l)
-        (omega (arith, aft f w fw cap xs j l, ap (λ (n : ℕ). n * w) counted)) (length-replicate w 0) in
-        ap (λ (x : List ℕ). set x 0 (getD t 0 0 + 1)) q
-        ∙ ap (λ (x : ℕ). ((x + 1) ∷ rowsWords f (take j xs)) ++ (replicate w 0 ++ (R ++ Z))) counted
-        ∙ insert-to f w fw cap xs j l h z (replicate w 0) (sym fz)
+        count-stored h l z fz
+        (g (length xs ∷ rowsWords f (take j xs)) (rowsWords f (drop j xs)) (replicate w 0) (replicate ((cap - suc (length xs)) * w) 0) (e ∙ insert-from f w fw cap xs j h) (fore f w fw cap xs j l)
+        (omega (arith, aft f w fw cap xs j l, ap (λ (n : ℕ). n * w) counted)) (length-replicate w 0))
+
+    -- past the last row its room is there
+    pub open-last : length xs < cap → j ≡ length xs → u ≡ t → (z : A) → f z ≡ replicate w 0 → set u 0 (getD t 0 0 + 1) ≡ table f w cap (insertAt xs j z)
+    unfolding rowsWords
+    open-last h l s z fz =
+        let n : rowsWords f (drop j xs) ≡ [] = ap (rowsWords f) (drop-of-length-le xs {i = j} (omega arith)) in
+        count-stored h (omega arith) z fz (s ∙ e ∙ insert-from f w fw cap xs j h ∙ rw n)
 
     -- what `close_gap` ensures, and the store of the count after it
     pub remove-words : (d : A) → j < length xs → length xs ≤ cap

@@ -11,7 +11,7 @@ ghost use Rattle.shifts.specs.Moved.{movedDown};
 
 // ---- Rows of w words, with room for cap of them
 
-// A row of zeros more, at j.
+// A row of zeros more, at j: past the last one it stands already.
 pub fn open_row(t: &mut [u64], w: usize, cap: usize, j: usize)
     requires { ⌜ (length (now t) ≡ 1 + cap * w) × (cap < 4096) × (w < 4096) ⌝ }
     ensures { λ _. ⌜ ((rs : List (Row w)) (z : Row w) → now (t .entry) ≡ table wordsIn w cap rs → length rs < cap → j ≤ length rs → z .words ≡ replicate w 0 →
@@ -22,6 +22,10 @@ pub fn open_row(t: &mut [u64], w: usize, cap: usize, j: usize)
         return;
     }
     if n < j {
+        return;
+    }
+    if j == n {
+        t[0] = (n + 1) as u64;
         return;
     }
     let a = 1 + j * w;
@@ -143,7 +147,11 @@ pub fn empty(t: &mut [u64], w: usize, cap: usize)
     requires { ⌜ (length (now t) ≡ 1 + cap * w) × (cap < 4096) × (w < 4096) ⌝ }
     ensures { λ _. ⌜ ((rs : List (Row w)) → now (t .entry) ≡ table wordsIn w cap rs → length rs ≤ cap → now (t .exit) ≡ replicate (length (now (t .entry))) 0) ⌝ }
 {
-    let e = 1 + rows_within(t, cap) * w;
+    let n = rows_within(t, cap);
+    if n == 0 {
+        return;
+    }
+    let e = 1 + n * w;
     shifts::clear(&mut t[0..e]);
 }
 

@@ -50,9 +50,10 @@ pub enum Answer {
     NotASnapshot,
 }
 
+// The answer stands between the counts: side by side they would be copied as one, which waits for both to be stored.
 pub struct Outcome {
-    pub answer: Answer,
     pub handled: u64,
+    pub answer: Answer,
     pub draws_used: u64,
 }
 

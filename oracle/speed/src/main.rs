@@ -2,6 +2,7 @@
 //! of docs/SPEED.md; or, by `speed WHAT BOARD TURNS`, does one thing again and
 //! again for a profiler to look at.
 
+mod added;
 mod boards;
 mod clock;
 mod depths;

@@ -1,25 +1,33 @@
-//! The Rust's side: a step on its live state, and a snapshot read into its
-//! maps and written from them with no check but the structure.
+//! The Rust's side: a step on its live state.
 
-use std::collections::BTreeMap;
-
-use hyperscale_types::{
-    Admission, BeaconState, CohortSeat, KeeperSeat, MergeHalf, PendingReshape, ShardId, ValidatorId,
-};
+use hyperscale_types::{BeaconState, MergeHalf, PendingReshape, ShardId, ValidatorId};
 use judge::SEED;
 use original::state as rust;
 use plain::{Args, Step};
 
-/// One step by the Rust's own function. The five that it lacks are the lines
-/// that its maps ask for, with none of document 01's checks.
-pub fn act(state: &mut BeaconState, step: Step, args: Args) {
+use crate::added;
+
+/// One step, and its answer: 0 after the Rust's own function, which has none.
+pub fn act(state: &mut BeaconState, step: Step, args: Args) -> u64 {
     let target = ShardId(args.shard);
     match step {
-        Step::Tick => state.current_epoch = state.current_epoch.next(),
-        Step::AdmitSplit => admit_split(state, target),
+        Step::Tick => added::tick(state),
+        Step::AdmitSplit => added::admit_split(state, target),
+        Step::MarkReady => added::mark_ready(state, target, ValidatorId(args.machine)),
+        Step::MarkQuiet => added::mark_quiet(state, target, args.side),
+        _ => {
+            act_as_original(state, step, args);
+            0
+        }
+    }
+}
+
+/// Of an admission of a merge it has the draw; the rest is the line that its
+/// maps ask for.
+fn act_as_original(state: &mut BeaconState, step: Step, args: Args) {
+    let target = ShardId(args.shard);
+    match step {
         Step::AdmitMerge => admit_merge(state, target),
-        Step::MarkReady => mark_ready(state, target, ValidatorId(args.machine)),
-        Step::MarkQuiet => mark_quiet(state, target, args.side),
         Step::DrawCohort => draw_cohort(state, target),
         Step::Lapse => rust::lapse_split(state, target),
         Step::ScheduleSplits => rust::schedule_ready_splits(state),
@@ -33,25 +41,7 @@ pub fn act(state: &mut BeaconState, step: Step, args: Args) {
         }
         Step::Resolve => rust::resolve_pending_rotations(state),
         Step::TimeOut => drop(rust::auto_ready_timeout(state)),
-        Step::Read => unreachable!("a read is no step"),
-    }
-}
-
-fn admit_split(state: &mut BeaconState, target: ShardId) {
-    let split = PendingReshape::Split {
-        cohort: BTreeMap::new(),
-        cohort_seed: SEED,
-        admitted: now(state),
-        quiet: false,
-        scheduled: None,
-    };
-    state.pending_reshapes.insert(target, split);
-}
-
-fn now(state: &BeaconState) -> Admission {
-    Admission {
-        at: state.current_epoch,
-        drain_by: None,
+        _ => unreachable!("a step that the original lacks"),
     }
 }
 
@@ -59,40 +49,13 @@ fn admit_merge(state: &mut BeaconState, target: ShardId) {
     let (left, right) = target.children();
     let merge = PendingReshape::Merge {
         keepers: rust::draw_merge_keepers(state, target),
-        admitted: Some(now(state)),
+        admitted: Some(added::now(state)),
         halves: [left, right]
             .map(|child| (child, MergeHalf { quiet: false }))
             .into(),
         scheduled_terminal: None,
     };
     state.pending_reshapes.insert(target, merge);
-}
-
-fn mark_ready(state: &mut BeaconState, target: ShardId, machine: ValidatorId) {
-    match state.pending_reshapes.get_mut(&target) {
-        Some(PendingReshape::Split { cohort, .. }) => {
-            if let Some(CohortSeat { ready, .. }) = cohort.get_mut(&machine) {
-                *ready = true;
-            }
-        }
-        Some(PendingReshape::Merge { keepers, .. }) => {
-            if let Some(KeeperSeat { ready, .. }) = keepers.get_mut(&machine) {
-                *ready = true;
-            }
-        }
-        None => {}
-    }
-}
-
-fn mark_quiet(state: &mut BeaconState, target: ShardId, side: u64) {
-    match state.pending_reshapes.get_mut(&target) {
-        Some(PendingReshape::Split { quiet, .. }) => *quiet = true,
-        Some(PendingReshape::Merge { halves, .. }) => {
-            let child = ShardId(2 * target.0 + side);
-            halves.insert(child, MergeHalf { quiet: true });
-        }
-        None => {}
-    }
 }
 
 fn draw_cohort(state: &mut BeaconState, target: ShardId) {

@@ -23,7 +23,7 @@ pub fn steps() -> impl Iterator<Item = Step> {
     Step::ALL.into_iter().filter(|step| *step != Step::Read)
 }
 
-/// The original lacks these, or all but a part of one.
+/// The original lacks these.
 fn marked(step: Step) -> String {
     let lacks = matches!(
         step,
@@ -111,7 +111,9 @@ fn in_maps(at: Rc<Situation>) -> Figure {
             state.clone_from(&template);
             rand::lend(&at.call.draws);
         },
-        move |state| maps::act(state, step, args),
+        move |state| {
+            black_box(maps::act(state, step, args));
+        },
     )
 }
 
@@ -131,7 +133,8 @@ fn round_in_maps(at: Rc<Situation>) -> Figure {
 
 fn round_once_in_maps(bytes: &[u8], at: &Situation, out: &mut Vec<u8>) {
     let mut state = snapshot::read(bytes).expect("a snapshot");
-    maps::act(&mut state, at.call.step, at.call.args);
+    let answer = maps::act(&mut state, at.call.step, at.call.args);
+    assert_eq!(answer, 0, "{}", step_name(at.call.step));
     snapshot::write(&state, out);
 }
 
