@@ -1,6 +1,6 @@
 //! The steps that document 01 adds, as a Rust node would have them over its
-//! maps: the questions in document 01's order, the first fault deciding, and
-//! the answer's number.
+//! maps: the questions in document 01's order, the first fault deciding; the
+//! answer's number, and into lent words the count handled and the draws used.
 
 use std::collections::BTreeMap;
 
@@ -8,7 +8,9 @@ use board::{LAST_EPOCH, LAST_TARGET, RESHAPES};
 use hyperscale_types::{Admission, BeaconState, MergeHalf, PendingReshape, ShardId, ValidatorId};
 use judge::SEED;
 
-const DONE: u64 = 0;
+/// The count handled and the draws used.
+pub type Counts = [u64; 2];
+
 const AT_LAST_EPOCH: u64 = 2;
 const OUT_OF_RANGE: u64 = 3;
 const NO_BOUNDARY: u64 = 5;
@@ -18,6 +20,16 @@ const NO_ROOM: u64 = 11;
 
 fn is_target(shard: ShardId) -> bool {
     (1..=LAST_TARGET).contains(&shard.0)
+}
+
+fn refused(answer: u64, counts: &mut Counts) -> u64 {
+    *counts = [0, 0];
+    answer
+}
+
+fn done(counts: &mut Counts) -> u64 {
+    *counts = [1, 0];
+    0
 }
 
 /// Two families share a shard where one target is the other's or its parent.
@@ -33,17 +45,17 @@ pub fn now(state: &BeaconState) -> Admission {
     }
 }
 
-pub fn tick(state: &mut BeaconState) -> u64 {
+pub fn tick(state: &mut BeaconState, counts: &mut Counts) -> u64 {
     if LAST_EPOCH <= state.current_epoch.0 {
-        return AT_LAST_EPOCH;
+        return refused(AT_LAST_EPOCH, counts);
     }
     state.current_epoch = state.current_epoch.next();
-    DONE
+    done(counts)
 }
 
-pub fn admit_split(state: &mut BeaconState, target: ShardId) -> u64 {
+pub fn admit_split(state: &mut BeaconState, target: ShardId, counts: &mut Counts) -> u64 {
     if !is_target(target) {
-        return OUT_OF_RANGE;
+        return refused(OUT_OF_RANGE, counts);
     }
     let mut others = state.pending_reshapes.keys();
     let committees = &state.next_shard_committees;
@@ -53,13 +65,13 @@ pub fn admit_split(state: &mut BeaconState, target: ShardId) -> u64 {
         || committees.contains_key(&left)
         || committees.contains_key(&right)
     {
-        return FAMILY_TAKEN;
+        return refused(FAMILY_TAKEN, counts);
     }
     if !state.boundaries.contains_key(&target) {
-        return NO_BOUNDARY;
+        return refused(NO_BOUNDARY, counts);
     }
     if RESHAPES <= state.pending_reshapes.len() {
-        return NO_ROOM;
+        return refused(NO_ROOM, counts);
     }
     let split = PendingReshape::Split {
         cohort: BTreeMap::new(),
@@ -69,12 +81,17 @@ pub fn admit_split(state: &mut BeaconState, target: ShardId) -> u64 {
         scheduled: None,
     };
     state.pending_reshapes.insert(target, split);
-    DONE
+    done(counts)
 }
 
-pub fn mark_ready(state: &mut BeaconState, target: ShardId, machine: ValidatorId) -> u64 {
+pub fn mark_ready(
+    state: &mut BeaconState,
+    target: ShardId,
+    machine: ValidatorId,
+    counts: &mut Counts,
+) -> u64 {
     if !is_target(target) {
-        return OUT_OF_RANGE;
+        return refused(OUT_OF_RANGE, counts);
     }
     let ready = match state.pending_reshapes.get_mut(&target) {
         Some(PendingReshape::Split { cohort, .. }) => {
@@ -86,16 +103,16 @@ pub fn mark_ready(state: &mut BeaconState, target: ShardId, machine: ValidatorId
         None => None,
     };
     let Some(ready) = ready else {
-        return NOT_THERE;
+        return refused(NOT_THERE, counts);
     };
     *ready = true;
-    DONE
+    done(counts)
 }
 
 /// A split has side 0 only.
-pub fn mark_quiet(state: &mut BeaconState, target: ShardId, side: u64) -> u64 {
+pub fn mark_quiet(state: &mut BeaconState, target: ShardId, side: u64, counts: &mut Counts) -> u64 {
     if !is_target(target) || 1 < side {
-        return OUT_OF_RANGE;
+        return refused(OUT_OF_RANGE, counts);
     }
     match state.pending_reshapes.get_mut(&target) {
         Some(PendingReshape::Split { quiet, .. }) if side == 0 => *quiet = true,
@@ -103,7 +120,7 @@ pub fn mark_quiet(state: &mut BeaconState, target: ShardId, side: u64) -> u64 {
             let child = ShardId(2 * target.0 + side);
             halves.insert(child, MergeHalf { quiet: true });
         }
-        _ => return NOT_THERE,
+        _ => return refused(NOT_THERE, counts),
     }
-    DONE
+    done(counts)
 }

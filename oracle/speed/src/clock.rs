@@ -51,18 +51,31 @@ pub fn over<T: Clone + 'static>(
     mut act: impl FnMut(&mut T) + 'static,
     mut part: impl FnMut(&mut T) + 'static,
 ) -> Figure {
-    // each round has memory of its own: where a board happens to lie is worth some nanoseconds
+    // each round has memory and a depth of its own: where a board and a frame happen to lie is worth some nanoseconds
     let mut states = vec![state; ROUNDS];
     let mut rounds = 0;
     Box::new(move || {
         let state = &mut states[rounds];
         rounds += 1;
-        let one = |_| {
-            let whole = sample(state, &mut fresh, &mut act);
-            whole - sample(state, &mut fresh, &mut part)
-        };
-        middle((0..CALLS).map(one).collect())
+        deeper(rounds, &mut || {
+            let one = |_| {
+                let whole = sample(state, &mut fresh, &mut act);
+                whole - sample(state, &mut fresh, &mut part)
+            };
+            middle((0..CALLS).map(one).collect())
+        })
     })
+}
+
+/// What `figure` tells so many frames deeper in the stack.
+fn deeper(frames: usize, figure: &mut dyn FnMut() -> f64) -> f64 {
+    let room = black_box([0_u64; 9]);
+    let time = match frames {
+        0 => figure(),
+        _ => deeper(frames - 1, figure),
+    };
+    black_box(&room);
+    time
 }
 
 /// The figures of each row: of its quiet rounds the middle one.

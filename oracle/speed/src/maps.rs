@@ -5,16 +5,18 @@ use judge::SEED;
 use original::state as rust;
 use plain::{Args, Step};
 
-use crate::added;
+use crate::added::{self, Counts};
 
-/// One step, and its answer: 0 after the Rust's own function, which has none.
-pub fn act(state: &mut BeaconState, step: Step, args: Args) -> u64 {
+/// One step, and its answer: 0 after the Rust's own function, which has none
+/// and counts nothing.
+pub fn act(state: &mut BeaconState, step: Step, args: Args, counts: &mut Counts) -> u64 {
     let target = ShardId(args.shard);
+    let machine = ValidatorId(args.machine);
     match step {
-        Step::Tick => added::tick(state),
-        Step::AdmitSplit => added::admit_split(state, target),
-        Step::MarkReady => added::mark_ready(state, target, ValidatorId(args.machine)),
-        Step::MarkQuiet => added::mark_quiet(state, target, args.side),
+        Step::Tick => added::tick(state, counts),
+        Step::AdmitSplit => added::admit_split(state, target, counts),
+        Step::MarkReady => added::mark_ready(state, target, machine, counts),
+        Step::MarkQuiet => added::mark_quiet(state, target, args.side, counts),
         _ => {
             act_as_original(state, step, args);
             0

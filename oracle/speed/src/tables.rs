@@ -112,7 +112,9 @@ fn in_maps(at: Rc<Situation>) -> Figure {
             rand::lend(&at.call.draws);
         },
         move |state| {
-            black_box(maps::act(state, step, args));
+            let mut counts = [0; 2];
+            black_box(maps::act(state, step, args, &mut counts));
+            black_box(&counts);
         },
     )
 }
@@ -133,7 +135,9 @@ fn round_in_maps(at: Rc<Situation>) -> Figure {
 
 fn round_once_in_maps(bytes: &[u8], at: &Situation, out: &mut Vec<u8>) {
     let mut state = snapshot::read(bytes).expect("a snapshot");
-    let answer = maps::act(&mut state, at.call.step, at.call.args);
+    let mut counts = [0; 2];
+    let answer = maps::act(&mut state, at.call.step, at.call.args, &mut counts);
+    black_box(&counts);
     assert_eq!(answer, 0, "{}", step_name(at.call.step));
     snapshot::write(&state, out);
 }
