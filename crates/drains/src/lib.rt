@@ -140,7 +140,7 @@ pub fn stamp(board: &mut [u64], i: usize)
     fields::set_drain_by(board, i, by);
 }
 
-// The boundary at row k, which was found for the shard; none where there is none.
+// The boundary at row k, where one was found for the shard.
 fn mark_found(board: &mut [u64], k: usize, terminal: Epoch, admitted: Epoch)
     requires { ⌜ length (now board) ≡ boardSize ⌝ }
     ensures { λ _. ⌜ ((b : Board) → Holds (now (board .entry)) b → wellFormed b ≡ true → (s : Shard) → Found mostBounds s noBoundary (b .bounds) k →

@@ -42,10 +42,11 @@ module _ {A : Type 0} (k : ℕ) where
           let s : r ≡ most = is ∙ rw e in
           record { inside = λ h. absurd (omega arith); named = λ h. absurd (omega arith); missing = λ h. none-passes t l }
 
--- the row after that of the key before: it is the key's, or the key has none
-module _ {A : Type 0} (t : Table A) (rise : Rising keyOf t) (most k i : ℕ) (d : Entry A) (l : i < length t) (e : getD t i d .key + 1 ≡ k) where
-  pub after-here : i + 1 < length t → getD t (i + 1) d .key ≡ k → length t ≤ most → Found most k d t (i + 1)
-  after-here h q room = record { inside = λ m. h; named = λ m. q; missing = λ m. absurd (omega arith) }
+-- a row that has the key
+pub found-here : {A : Type 0} (most k : ℕ) (d : Entry A) (t : Table A) (i : ℕ) → length t ≤ most → i < length t → getD t i d .key ≡ k → Found most k d t i
+found-here most k d t i room l e = record { inside = λ m. l; named = λ m. e; missing = λ m. absurd (omega arith) }
 
-  pub after-none : (i + 1 < length t → getD t (i + 1) d .key ≡ k → ⊥) → Found most k d t most
-  after-none n = record { inside = λ m. absurd (omega arith); named = λ m. absurd (omega arith); missing = λ m. next-is-none t rise k i d l e n }
+-- the key after that of row i, where the next row has another
+pub after-none : {A : Type 0} (most k : ℕ) (d : Entry A) (t : Table A) → Rising keyOf t → (i : ℕ) → i < length t → getD t i d .key + 1 ≡ k
+    → (i + 1 < length t → getD t (i + 1) d .key ≡ k → ⊥) → Found most k d t most
+after-none most k d t rise i l e n = record { inside = λ m. absurd (omega arith); named = λ m. absurd (omega arith); missing = λ m. next-is-none t rise k i d l e n }
