@@ -276,48 +276,24 @@ fn replaced_rows_need_no_room() {
 
 #[test]
 fn an_unmet_condition_comes_before_the_victim() {
-    let mut board = children_board(4);
-    let stranger = Args {
-        machine: 99,
-        ..target(2)
+    let machine_of = |shard, machine| Args {
+        machine,
+        ..target(shard)
     };
-    refuses(&board, Step::Rotate, stranger, &[], 8);
-    says(
-        &board,
-        Step::Rotate,
-        Args {
-            machine: 11,
-            ..stranger
-        },
-        &[],
-        done(0, 0),
-    );
+    let stays = |board: &Board, args| {
+        says(board, Step::Rotate, args, &[], done(0, 0));
+    };
+    let mut board = children_board(4);
+    refuses(&board, Step::Rotate, machine_of(2, 99), &[], 8);
+    stays(&board, machine_of(2, 11));
     board.settings.interval = 2;
-    says(&board, Step::Rotate, stranger, &[], done(0, 0));
+    stays(&board, machine_of(2, 99));
     board.settings.interval = 1;
     board.settings.most = 0;
-    says(&board, Step::Rotate, stranger, &[], done(0, 0));
+    stays(&board, machine_of(2, 99));
     let mut board = split_board(4);
-    says(
-        &board,
-        Step::Rotate,
-        Args {
-            shard: 1,
-            ..stranger
-        },
-        &[],
-        done(0, 0),
-    );
+    stays(&board, machine_of(1, 99));
     board.settings.epoch = 0;
     board.reshapes.clear();
-    says(
-        &board,
-        Step::Rotate,
-        Args {
-            shard: 1,
-            ..stranger
-        },
-        &[],
-        done(0, 0),
-    );
+    stays(&board, machine_of(1, 99));
 }

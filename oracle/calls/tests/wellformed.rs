@@ -200,20 +200,6 @@ fn words() {
 #[test]
 fn the_longest_snapshot() {
     let mut board = split_board(32);
-    let seats = (0..32).map(|id| {
-        (
-            id,
-            Seat {
-                child: 2,
-                ready: true,
-            },
-        )
-    });
-    let row = Reshape {
-        scheduled: Some(6),
-        halves: [(0..48).collect(), (48..96).collect()],
-        ..Reshape::admitted(Kind::Split, 4, seats.collect())
-    };
     board.machines = (0..256).map(|id| (id, Place::Pooled)).collect();
     board.committees = (1..=24).map(|shard| (shard, (0..96).collect())).collect();
     board.boundaries = (1..=48).map(|shard| (shard, boundary(1))).collect();
@@ -223,18 +209,14 @@ fn the_longest_snapshot() {
     };
     board.rotations = (0..48).map(|id| ((1, id), rotation)).collect();
     for target in 1..=8 {
-        let children = row.seats.keys().map(|id| {
-            let child = 2 * target;
-            (*id, Seat { child, ready: true })
-        });
-        let seats = children.collect();
-        board.reshapes.insert(
-            target,
-            Reshape {
-                seats,
-                ..row.clone()
-            },
-        );
+        let child = 2 * target;
+        let seats = (0..32).map(|id| (id, Seat { child, ready: true }));
+        let row = Reshape {
+            scheduled: Some(6),
+            halves: [(0..48).collect(), (48..96).collect()],
+            ..Reshape::admitted(Kind::Split, 4, seats.collect())
+        };
+        board.reshapes.insert(target, row);
     }
     assert!(board.well_formed());
     assert_eq!(write(&board).len(), SNAPSHOT_WORDS);

@@ -5,13 +5,16 @@ use std::time::Instant;
 
 /// How many rounds each figure has. The rounds of all figures take turns: a
 /// while in which the machine has other work falls on some rounds of each.
-const ROUNDS: usize = 15;
+const ROUNDS: usize = 45;
 
 /// Of a row's rounds so many count, those in which its calls took least.
-const QUIET: usize = 5;
+const QUIET: usize = 15;
 
 /// How many calls a round has.
-const CALLS: usize = 600;
+const CALLS: usize = 400;
+
+/// In how many places of memory each figure has its state, a round in each in turn.
+const PLACES: usize = 15;
 
 /// The time of a call in one round, in nanoseconds.
 pub type Figure = Box<dyn FnMut() -> f64>;
@@ -51,16 +54,23 @@ pub fn over<T: Clone + 'static>(
     mut act: impl FnMut(&mut T) + 'static,
     mut part: impl FnMut(&mut T) + 'static,
 ) -> Figure {
-    // each round has memory and a depth of its own: where a board and a frame happen to lie is worth some nanoseconds
-    let mut states = vec![state; ROUNDS];
+    // each round has another place in memory and a depth of its own: where a board and a frame happen to lie is worth some nanoseconds
+    let mut states = vec![state; PLACES];
     let mut rounds = 0;
     Box::new(move || {
-        let state = &mut states[rounds];
+        let state = &mut states[rounds % PLACES];
         rounds += 1;
         deeper(rounds, &mut || {
-            let one = |_| {
-                let whole = sample(state, &mut fresh, &mut act);
-                whole - sample(state, &mut fresh, &mut part)
+            // of two calls in turn the first takes longer, whichever it is: so each is first every other time
+            let one = |turn| match turn % 2 {
+                0 => {
+                    let whole = sample(state, &mut fresh, &mut act);
+                    whole - sample(state, &mut fresh, &mut part)
+                }
+                _ => {
+                    let less = sample(state, &mut fresh, &mut part);
+                    sample(state, &mut fresh, &mut act) - less
+                }
             };
             middle((0..CALLS).map(one).collect())
         })

@@ -88,12 +88,20 @@ fn print_step(step: Step, row: &[f64]) {
 
 /// The step in place, less the check.
 fn in_place(at: Rc<Situation>) -> Figure {
-    let template = library::words(&at.board);
+    less_the_check(library::words(&at.board), move |words| {
+        library::act(words, &at.call)
+    })
+}
+
+fn less_the_check(
+    template: Vec<u64>,
+    mut act: impl FnMut(&mut Vec<u64>) -> u64 + 'static,
+) -> Figure {
     over(
         template.clone(),
         move |words| words.copy_from_slice(&template),
         move |words| {
-            black_box(library::act(words, &at.call));
+            black_box(act(words));
         },
         |words| {
             black_box(exports::well_formed(words));
@@ -152,24 +160,30 @@ fn print_checks() {
             .collect(),
     );
     println!("\n### The check alone, a read and a write\n");
-    println!("| board | the check | one pass | passes | a read | a write |");
-    println!("|---|--:|--:|--:|--:|--:|");
+    println!(
+        "| board | the check | one pass | passes | a read | a write | the check less itself |"
+    );
+    println!("|---|--:|--:|--:|--:|--:|--:|");
     for ((name, _), row) in boards.iter().zip(figures) {
-        let [check, pass, read, write] = row[..] else {
+        let [check, pass, read, write, itself] = row[..] else {
             unreachable!("as `check_figures` has them")
         };
         println!(
-            "| {name} | {check:.0} | {pass:.0} | {:.2} | {read:.0} | {write:.0} |",
+            "| {name} | {check:.0} | {pass:.0} | {:.2} | {read:.0} | {write:.0} | {itself:.1} |",
             check / pass
         );
     }
 }
 
+/// The last, which would be 0, tells how far a step less the check may be off.
 fn check_figures(board: &Board) -> Vec<Figure> {
     let room = Room::of(board);
+    let itself = less_the_check(library::words(board), |words| exports::well_formed(words));
     [Room::check, Room::pass, Room::read, Room::write]
         .map(|act: fn(&mut Room)| time(room.clone(), |_| (), act))
-        .into()
+        .into_iter()
+        .chain([itself])
+        .collect()
 }
 
 fn print_growth() {
