@@ -175,7 +175,7 @@ fn print_checks() {
     }
 }
 
-/// The last, which would be 0, tells how far a step less the check may be off.
+/// The last, 0 by an exact clock, is what timing alone adds to a step less the check.
 fn check_figures(board: &Board) -> Vec<Figure> {
     let room = Room::of(board);
     let itself = less_the_check(library::words(board), |words| exports::well_formed(words));
