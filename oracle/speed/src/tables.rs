@@ -79,11 +79,19 @@ fn print_step(step: Step, row: &[f64]) {
         unreachable!("as `step_figures` has them")
     };
     println!(
-        "| {} | {ours:.0} | {rust:.0} | {:.2} | {one:.0} | {three:.0} | {rust_round:.0} | {:.2} |",
+        "| {} | {} | {} | {:.2} | {one:.0} | {three:.0} | {rust_round:.0} | {:.2} |",
         marked(step),
+        nanoseconds(*ours),
+        nanoseconds(*rust),
         ours / rust,
         one / rust_round
     );
+}
+
+/// With a digit after the point where it is small, as two that differ would else look alike.
+fn nanoseconds(time: f64) -> String {
+    let digits = usize::from(time < 10.0);
+    format!("{time:.digits$}")
 }
 
 /// The step in place, less the check.
@@ -195,7 +203,7 @@ fn print_growth() {
     println!("|---|--:|--:|--:|--:|--:|--:|--:|");
     for (step, row) in steps().zip(figures) {
         let (ours, rust) = row.split_at(shapes.len());
-        let cells: Vec<String> = ours.iter().map(|time| format!("{time:.0}")).collect();
+        let cells: Vec<String> = ours.iter().map(|time| nanoseconds(*time)).collect();
         println!(
             "| {} | {} | {:.1} | {:.1} |",
             marked(step),
