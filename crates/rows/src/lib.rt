@@ -129,7 +129,7 @@ pub fn reshape_row(board: &[u64], target: ShardId) -> usize
     requires { ⌜ length (now board) ≡ boardSize ⌝ }
     ensures { λ r. ⌜ ((b : Board) → Holds (now (board .entry)) b → wellFormed b ≡ true → Found mostReshapes (target .0) noReshape (b .reshapes) r) ⌝ }
 {
-    tables::row_of(
+    tables::row_among_few(
         &board[RESHAPES_AT..BOARD_SIZE],
         RESHAPE_WIDTH,
         MOST_RESHAPES,

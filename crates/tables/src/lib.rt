@@ -108,6 +108,22 @@ pub fn row_of(t: &[u64], w: usize, cap: usize, k: u64) -> usize
     cap
 }
 
+// The same one row after another: of a few rows the compiler knows each one's place, and no look waits for the count.
+pub fn row_among_few(t: &[u64], w: usize, cap: usize, k: u64) -> usize
+    requires { ⌜ (length (now t) ≡ 1 + cap * w) × (cap < 4096) × (0 < w) × (w < 4096) ⌝ }
+    ensures { λ r. ⌜ ((rs : List (Row w)) → now (t .entry) ≡ table wordsIn w cap rs → length rs ≤ cap → Rising keyIn rs → r ≡ rowOf keyIn cap k rs) ⌝ }
+{
+    let n = rows_within(t, cap);
+    let mut i: usize = 0;
+    while i < n {
+        if t[1 + i * w] == k {
+            return i;
+        }
+        i += 1;
+    }
+    cap
+}
+
 // Row i goes to place k, unless its key is x: the next place.
 fn keep_row(t: &mut [u64], w: usize, k: usize, i: usize, x: u64) -> usize
     requires { ⌜ (k ≤ i) × (1 + i * w + w ≤ length (now t)) × (0 < w) × (i < 4096) × (w < 4096) ⌝ }

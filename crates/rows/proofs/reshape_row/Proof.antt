@@ -10,7 +10,7 @@ use Rattle.rows.proofs.reshape_row.Statement.{statement}
 use Rattle.rows.proofs.reshape_row.Tie as tie
 
 returns : tie.Need-returns
-returns c = λ b h ok. found-at _ mostReshapes noReshape (b .reshapes) (h .fits .reshapes) _ (section-row reshapes _ b h keyOf target-is _ _ (reshapes-rise b ok) (c .row-of .ensures))
+returns c = λ b h ok. found-at _ mostReshapes noReshape (b .reshapes) (h .fits .reshapes) _ (section-row reshapes _ b h keyOf target-is _ _ (reshapes-rise b ok) (c .row-among-few .ensures))
 
 pub reshape-row-spec : {M : Type 1} → statement M
 reshape-row-spec =
