@@ -5,7 +5,7 @@ use mathlib.Core.Bool.{Bool}
 use native.Mathlib.Omega.{arith}
 use borrow.Author.Tests.{lt-ltb, le-ltb, eq-eqb, ne-eqb}
 use lib.Dec.{eqb}
-use lib.ListN.{length, getD, drop}
+use lib.ListN.{length, drop}
 use Rattle.tables.specs.Rows.{table, Row, wordsIn, keyIn, firstWhere}
 use Rattle.tables.proofs.Tables.{counted, row-key, scaled, no-row}
 use Rattle.tables.proofs.Keys.{search-found, search-passed, search-ended}
