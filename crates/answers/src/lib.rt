@@ -1,4 +1,5 @@
 // What an answer's number means, put in a line.
+#![tactic(auto)]
 ghost use Rattle.std.specs.Prelude.{◌≤◌, ◌<◌};
 ghost use Rattle.lines.specs.Says.{Puts};
 ghost use Rattle.answers.specs.Answers.{answer_text};

@@ -1,4 +1,5 @@
 // The steps over several shards: which they go through, found before the first turn.
+#![tactic(auto)]
 ghost use Rattle.std.specs.Prelude.{◌≡◌, ◌++◌, ◌+◌, ◌<◌, ◌≤◌, length, get_or, take};
 ghost use Rattle.rules.specs.Board.{Board, most_reshapes};
 ghost use Rattle.board.specs.Layout.{board_size};
@@ -11,7 +12,7 @@ use reshapes::fields;
 use types::Epoch;
 
 // Which reshapes a step takes.
-#[derive(Drop)]
+#[derive(Clone, Copy)]
 pub enum Which {
     SplitsToSchedule,
     MergesToSchedule,

@@ -15,7 +15,7 @@ use shards::rotations;
 use types::ShardId;
 
 // Which of a shard's rotations are counted.
-#[derive(Drop)]
+#[derive(Clone, Copy)]
 pub enum Counted {
     Open,
     InFlight,

@@ -1,4 +1,5 @@
 // Two tables walked together by key: what stands in one alone, or in both with other words.
+#![tactic(auto)]
 ghost use Rattle.std.specs.Prelude.{◌≡◌, List, ℕ, ◌+◌, ◌*◌, ◌<◌, ◌≤◌, length, take, drop};
 ghost use Rattle.rules.specs.Lists.{equal};
 ghost use Rattle.tables.specs.Rows.{Row};
@@ -8,7 +9,7 @@ use word_tests::rises;
 
 // Rows i of the first table and j of the second: past a row that is gone the walk goes on at i + 1 and j, past a new one
 // at i and j + 1, past a changed one at i + 1 and j + 1.
-#[derive(Drop)]
+#[derive(Clone, Copy)]
 pub enum Difference {
     Gone(usize, usize),
     New(usize, usize),

@@ -1,4 +1,5 @@
 // A reshape on its way to its terminal: ready seats counted, the drain planned, then applied.
+#![tactic(auto)]
 ghost use Rattle.std.specs.Prelude.{◌≡◌, ◌+◌, ◌<◌, ◌≤◌, true, [], length, nat_le, slice_index_or};
 ghost use Rattle.types.specs.Numbers.{Shard};
 ghost use Rattle.types.specs.Shards.{quorum};
@@ -21,7 +22,7 @@ use types::{Epoch, ShardId};
 // ---- ready seats
 
 // Whose ready seats are counted: all, or those of a child.
-#[derive(Drop)]
+#[derive(Clone, Copy)]
 pub enum Whose {
     All,
     Of(ShardId),
@@ -74,7 +75,7 @@ pub fn reaches_quorum(board: &[u64], ready: usize) -> bool
 // ---- the plan
 
 // What is to be done with a reshape that passed its gate.
-#[derive(Drop)]
+#[derive(Clone, Copy)]
 pub enum Plan {
     Stamp,
     Wait,

@@ -1,17 +1,18 @@
 // A reader over lent draws as one value: it holds the lent list and how far it is read.
+#![tactic(auto)]
 ghost use Rattle.std.specs.Prelude.{◌≡◌};
 ghost use Rattle.draw_readers.specs.Reads.{draw_at, read_by};
 
 use sampling::{Drawn, Reader};
 
-#[derive(Drop)]
+#[derive(Clone, Copy)]
 pub struct DrawReader<'a> {
     pub draws: &'a [u64],
     pub at: usize,
 }
 
 // What a draw gives, or why it is refused.
-#[derive(Drop)]
+#[derive(Clone, Copy)]
 pub enum Draw {
     Index(u64),
     Missing,
@@ -19,14 +20,14 @@ pub enum Draw {
 }
 
 // A draw from a list, and how far the list is read then; a refused draw reads nothing.
-#[derive(Drop)]
+#[derive(Clone, Copy)]
 pub struct DrawAt {
     pub draw: Draw,
     pub at: usize,
 }
 
 // The same with the reader handed back.
-#[derive(Drop)]
+#[derive(Clone, Copy)]
 pub struct Read<'a> {
     pub reader: DrawReader<'a>,
     pub draw: Draw,

@@ -1,4 +1,5 @@
 // What refuses an admission before its draws.
+#![tactic(auto)]
 ghost use Rattle.std.specs.Prelude.{◌≡◌, true, ◌≤◌, length};
 ghost use Rattle.rules.specs.Table.{stands};
 ghost use Rattle.rules.specs.Board.{Board, last_target};
@@ -16,7 +17,7 @@ use reshapes::fields;
 use types::{Answer, ShardId};
 
 // An admission so far: nothing against it, or the answer that refuses it.
-#[derive(Drop)]
+#[derive(Clone, Copy)]
 pub enum Admission {
     Granted,
     Refused(Answer),

@@ -1,4 +1,5 @@
 // What breaks a clause of the seat check, in words.
+#![tactic(auto)]
 ghost use Rattle.lines.specs.Says.{Puts};
 ghost use Rattle.fault_lines.specs.Faults.{machine_wrong, machine_fault_text, rotation_fault_text, rotation_wrong, reshape_wrong, reshape_fault_text};
 
@@ -8,7 +9,7 @@ use types::{ShardId, ValidatorId};
 
 // A member that is not there, a machine that no committee or seat lists, a seat whose machine does not watch, a machine in
 // no half of a scheduled split or in both.
-#[derive(Drop)]
+#[derive(Clone, Copy)]
 pub enum MachineFault {
     StrayMember,
     Unlisted,
@@ -17,7 +18,7 @@ pub enum MachineFault {
 }
 
 // Parties that do not sit there, a party shared with another one, a scheduled split there.
-#[derive(Drop)]
+#[derive(Clone, Copy)]
 pub enum RotationFault {
     Unseated,
     SharedParty,
@@ -25,7 +26,7 @@ pub enum RotationFault {
 }
 
 // Two families that overlap, a reshape without what its admission asks for.
-#[derive(Drop)]
+#[derive(Clone, Copy)]
 pub enum ReshapeFault {
     Overlapping,
     Unfounded,

@@ -1,4 +1,5 @@
 // The seat check clause by clause: the rows that each walks, and which of them breaks it next.
+#![tactic(auto)]
 ghost use Rattle.std.specs.Prelude.{◌≡◌, true, ◌≤◌, ◌<◌, length};
 ghost use Rattle.rules.specs.Board.{Board, most_rotations};
 ghost use Rattle.rules.specs.WellFormed.{well_formed};
@@ -14,7 +15,7 @@ use shards::rotations;
 // What breaks a clause: a member that is not there, a machine that no committee or seat lists, a seat whose machine does not
 // watch; a rotation whose parties do not sit there, one that shares a party, one at a scheduled split; a machine in no half
 // of a scheduled split or in both; a family that overlaps another, a reshape without what its admission asks for.
-#[derive(Drop)]
+#[derive(Clone, Copy)]
 pub enum Clause {
     StrayMember,
     Unlisted,

@@ -1,4 +1,5 @@
 // The members of a shard's committee that a step draws among, in lent lists.
+#![tactic(auto)]
 ghost use Rattle.std.specs.Prelude.{◌≡◌, ◌++◌, true, ◌+◌, ◌<◌, ◌≤◌, length, get_or, take, drop};
 ghost use Rattle.rules.specs.Lists.{keep, has, sort};
 ghost use Rattle.rules.specs.Board.{Board, most_committees, most_members, most_rotations};
@@ -16,14 +17,14 @@ use shards::rotations;
 use types::{Answer, ShardId, ValidatorId};
 
 // How many seated members are ready, and how many wait.
-#[derive(Drop)]
+#[derive(Clone, Copy)]
 pub struct Counts {
     pub ready: usize,
     pub waiting: usize,
 }
 
 // The reader moved on; or the answer that refuses a draw.
-#[derive(Drop)]
+#[derive(Clone, Copy)]
 pub enum Mixed {
     Done(Reader),
     Refused(Answer),

@@ -1,4 +1,5 @@
 // A merge's keepers, drawn into a lent list.
+#![tactic(auto)]
 ghost use Rattle.std.specs.Prelude.{◌≡◌, ◌++◌, true, ◌+◌, ◌≤◌, length, take, drop};
 ghost use Rattle.rules.specs.Board.{Board, most_members, most_seats, last_target};
 ghost use Rattle.rules.specs.WellFormed.{well_formed};
@@ -19,14 +20,14 @@ const MOST_SIZE: usize = 32;
 pub const KEEPERS_ROOM: usize = MOST_SIZE + MOST_MEMBERS;
 
 // How many ids stand in the list, and the reader moved on; or the answer that refuses a draw.
-#[derive(Drop)]
+#[derive(Clone, Copy)]
 pub enum Listed {
     Done(usize, Reader),
     Refused(Answer),
 }
 
 // How many keepers the left child gives and how many the right, one after the other, and the reader moved on; or the answer that refuses a draw.
-#[derive(Drop)]
+#[derive(Clone, Copy)]
 pub enum Keepers {
     Drawn(usize, usize, Reader),
     Refused(Answer),

@@ -1,4 +1,5 @@
 // The moves off a shard, on lent words: a place, a member and a seat, by key.
+#![tactic(auto)]
 ghost use Rattle.std.specs.Prelude.{◌≡◌, true, ◌<◌, length, get_or};
 ghost use Rattle.rules.specs.Board.{Board, most_reshapes};
 ghost use Rattle.rules.specs.WellFormed.{well_formed};
@@ -15,7 +16,7 @@ use reshapes::{fields, seats};
 use types::{Machine, Place, ShardId, ValidatorId};
 
 // How a machine leaves a shard.
-#[derive(Drop)]
+#[derive(Clone, Copy)]
 pub enum Exit {
     Short,
     FromSeat,

@@ -1,16 +1,17 @@
 // Numbers read from text.
+#![tactic(auto)]
 ghost use Rattle.std.specs.Prelude.{◌≡◌, [], ◌∷◌, ◌+◌, ◌≤◌, length, drop};
 ghost use Rattle.numerals.specs.Decimal.{value_from, in_word, decimal_of, numeral_of};
 ghost use Rattle.numerals.specs.Pieces.{pieces_of, numbers_of, laid_over, end_of, run_of};
 ghost use Rattle.numerals.specs.Pieces.{between as Pieces·between};
 
-#[derive(Drop)]
+#[derive(Clone, Copy)]
 pub enum Numeral {
     Number(u64),
     NotANumber,
 }
 
-#[derive(Drop)]
+#[derive(Clone, Copy)]
 pub enum Parsed {
     // How many there are.
     Read(usize),

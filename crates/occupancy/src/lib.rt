@@ -1,4 +1,5 @@
 // Who stands where: committees, machines and cohorts name each other.
+#![tactic(auto)]
 ghost use Rattle.std.specs.Prelude.{◌≡◌, true, ◌<◌, length, get_or};
 ghost use Rattle.rules.specs.Lists.{has};
 ghost use Rattle.rules.specs.Board.{Board, most_committees, most_reshapes};

@@ -1,4 +1,5 @@
 // A board's words without the room past each count: how many they are, and laid as bytes.
+#![tactic(auto)]
 ghost use Rattle.std.specs.Prelude.{◌≡◌, ◌+◌, ◌-◌, ◌*◌, ◌≤◌, length};
 ghost use Rattle.board.specs.Layout.{committee_width, reshape_width, bounds_at, board_size};
 ghost use Rattle.packing.specs.Packed.{count_of, flat, committee, reshape, width_of, row_of, nested, from_bounds, packed};
@@ -78,7 +79,7 @@ fn put_reshape(t: &[u64], out: &mut [u8], at: usize) -> usize
     put_flat(1, MOST_HALF, &t[RIGHT_AT..RESHAPE_WIDTH], out, r)
 }
 
-#[derive(Drop)]
+#[derive(Clone, Copy)]
 pub enum Nested {
     Committees,
     Reshapes,

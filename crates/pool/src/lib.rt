@@ -1,4 +1,5 @@
 // The pool: the machines that wait for a seat, a draw from them, and one that is seated; what a turn tells.
+#![tactic(auto)]
 ghost use Rattle.std.specs.Prelude.{◌≡◌, [], ◌∷◌, true, ◌<◌, ◌≤◌, length, get_or, drop};
 ghost use Rattle.rules.specs.Board.{Board, most_machines, epoch_of};
 ghost use Rattle.types.specs.Places.{drawn_to};
@@ -16,7 +17,7 @@ use sampling::{Drawn, Reader};
 use types::{Answer, Outcome, ShardId};
 
 // Whom a draw finds: a machine's row, and the reader moved on; or why it finds none.
-#[derive(Drop)]
+#[derive(Clone, Copy)]
 pub enum Found {
     Row(usize, Reader),
     Nobody,
@@ -25,7 +26,7 @@ pub enum Found {
 }
 
 // How many a turn handled, and the reader moved on; or the answer that refuses it.
-#[derive(Drop)]
+#[derive(Clone, Copy)]
 pub enum Turned {
     Done(u64, Reader),
     Refused(Answer),

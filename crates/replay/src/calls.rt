@@ -2,7 +2,7 @@
 use crate::input;
 
 // What was asked, and what came of it.
-#[derive(Drop)]
+#[derive(Clone, Copy)]
 pub struct Call {
     pub step: u64,
     pub answer: u64,

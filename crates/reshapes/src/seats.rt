@@ -14,7 +14,7 @@ ghost use Rattle.reshapes.specs.Changes.{seat_entry};
 use board::layout::{MOST_SEATS, RESHAPE_WIDTH, RESHAPES_AT, SEAT_WIDTH, SEATS_AT, SEATS_SIZE};
 use types::{ShardId, ValidatorId};
 
-#[derive(Drop)]
+#[derive(Clone, Copy)]
 pub struct Seat {
     pub id: ValidatorId,
     pub child: ShardId,

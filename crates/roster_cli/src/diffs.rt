@@ -20,7 +20,7 @@ const NEW: u64 = 2;
 const CHANGED: u64 = 3;
 
 // Rows k of the first table and l of the second.
-#[derive(Drop)]
+#[derive(Clone, Copy)]
 pub struct Apart {
     pub how: u64,
     pub k: usize,

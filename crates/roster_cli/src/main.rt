@@ -1,4 +1,5 @@
 // The clerk's command: snapshots shown, checked, compared and tried.
+#![tactic(auto)]
 mod args;
 mod calls;
 mod checks;

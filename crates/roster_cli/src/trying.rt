@@ -20,7 +20,7 @@ const OUT: u64 = 2;
 
 // What stands after a step's numbers: how many draws, where the name of the new file stands (0 where there is none), and what
 // the next word belongs to.
-#[derive(Drop)]
+#[derive(Clone, Copy)]
 pub struct Options {
     pub good: bool,
     pub draws: usize,
@@ -215,7 +215,7 @@ fn keep(step: u64, answer: u64, out: usize, board: &[u64; WORDS]) {
 }
 
 // What a step is asked with.
-#[derive(Drop)]
+#[derive(Clone, Copy)]
 pub struct Asked {
     pub step: u64,
     pub first: u64,

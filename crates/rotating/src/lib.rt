@@ -1,4 +1,5 @@
 // Rotate with its draws from a reader: the step on the draws that are not yet read, and the reader moved on by those it used.
+#![tactic(auto)]
 ghost use Rattle.std.specs.Prelude.{◌≡◌, ◌+◌, ◌≤◌, length, drop};
 ghost use Rattle.rules.specs.Places.{rotate};
 ghost use Rattle.board.specs.Permitted.{PermittedStep};
@@ -9,14 +10,14 @@ use draw_readers::DrawReader;
 use types::{Answer, Outcome, ShardId, ValidatorId};
 
 // A rotate's outcome, and how far the lent draws are read then.
-#[derive(Drop)]
+#[derive(Clone, Copy)]
 pub struct RotatedAt {
     pub outcome: Outcome,
     pub at: usize,
 }
 
 // The same with the reader handed back.
-#[derive(Drop)]
+#[derive(Clone, Copy)]
 pub struct Rotated<'a> {
     pub reader: DrawReader<'a>,
     pub outcome: Outcome,

@@ -1,4 +1,5 @@
 // The rows of a roster's tables, in words.
+#![tactic(auto)]
 ghost use Rattle.lines.specs.Says.{Puts};
 ghost use Rattle.row_lines.specs.Rows.{member_row_text, rotation_text, seat_text, boundary_text, ends_text, reshape_text, quiet_text, progress_text};
 
@@ -115,7 +116,7 @@ pub fn put_reshape(
 }
 
 // How far a reshape has come.
-#[derive(Drop)]
+#[derive(Clone, Copy)]
 pub struct Progress {
     pub merge: bool,
     pub draining: bool,

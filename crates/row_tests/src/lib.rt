@@ -1,4 +1,5 @@
 // Tests of a row's words, of each kind of table.
+#![tactic(auto)]
 ghost use Rattle.std.specs.Prelude.{◌≡◌, [], ◌∷◌, false, ◌≤◌, length};
 ghost use Rattle.board.specs.Layout.{machine_width, committee_width, boundary_width, rotation_width, seat_width, seats_at, reshape_width};
 ghost use Rattle.word_tests.specs.Tests.{at, mark_count, rises, first_ok};
@@ -193,7 +194,7 @@ fn reshape_ok(t: &[u64]) -> bool
 
 // ---- Any kind of rows
 
-#[derive(Drop)]
+#[derive(Clone, Copy)]
 pub enum RowKind {
     Machines,
     Committees,

@@ -1,4 +1,5 @@
 // The tables of a board by number, as parts of its words: a count, and rows of one width.
+#![tactic(auto)]
 ghost use Rattle.std.specs.Prelude.{◌≡◌, ◌+◌, ◌≤◌, length, get_or};
 ghost use Rattle.board.specs.Layout.{board_size, reshape_width};
 ghost use Rattle.sections.specs.Tables.{widths, members_span, reshape_span, span_of, table_in, row_in, ids_in, count_in};
@@ -50,7 +51,7 @@ pub fn row_width(which: u64) -> usize
 }
 
 // Where a table stands: so many words from a place on; none where there is no such table.
-#[derive(Drop)]
+#[derive(Clone, Copy)]
 pub struct Span {
     pub at: usize,
     pub size: usize,

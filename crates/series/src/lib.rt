@@ -1,1 +1,2 @@
 // No code: what the exported calls keep, one after another.
+#![tactic(auto)]

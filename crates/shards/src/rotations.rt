@@ -13,7 +13,7 @@ ghost use Rattle.shards.specs.Rotations.{rotation_of};
 use board::layout::{MOST_ROTATIONS, RESHAPES_AT, ROTATION_WIDTH, ROTATIONS_AT};
 use types::{Epoch, ShardId, ValidatorId};
 
-#[derive(Drop)]
+#[derive(Clone, Copy)]
 pub struct Rotation {
     pub shard: ShardId,
     pub victim: ValidatorId,

@@ -1,4 +1,5 @@
 // Words of a lent slice moved up or down, and cleared.
+#![tactic(auto)]
 ghost use Rattle.std.specs.Prelude.{◌≡◌, List, ◌++◌, ℕ, ◌+◌, ◌≤◌, length, take, replicate};
 ghost use Rattle.shifts.specs.Moved.{moved_up, moved_down, moved_to};
 

@@ -1,4 +1,5 @@
 // What a step tells, and how far it walks a table.
+#![tactic(auto)]
 ghost use Rattle.std.specs.Prelude.{◌≡◌, ◌≤◌};
 ghost use Rattle.steps.specs.Inner.{outcome};
 

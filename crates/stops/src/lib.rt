@@ -1,4 +1,5 @@
 // Where the reading of bytes as a snapshot stops.
+#![tactic(auto)]
 ghost use Rattle.std.specs.Prelude.{◌≡◌, List, true, ℕ, ◌%◌, ◌<◌, eqb, length, get_or};
 ghost use Rattle.unpacking.specs.AsWords.{AsWords};
 ghost use Rattle.stops.specs.Stop.{section_reading, setting_tests, tests_reading, go_on, ended_at, words_reading, reading_of, place_in};
@@ -12,7 +13,7 @@ use row_tests::RowKind;
 use unpacking::{width, word};
 
 // All is good up to a place, or what begins there is not.
-#[derive(Drop)]
+#[derive(Clone, Copy)]
 pub enum Reading {
     Ended(usize),
     Stopped(usize),

@@ -1,22 +1,23 @@
 // Shards, machines, epochs and heights; a machine's place and its moves; what a step answers.
+#![tactic(auto)]
 ghost use Rattle.std.specs.Prelude.{◌≡◌, ◌≤◌};
 ghost use Rattle.types.specs.Shards.{left_of, right_of, parent_of, byzantine_threshold, quorum};
 ghost use Rattle.types.specs.Places.{is_pooled, is_seated_on, is_observing, observes, is_ready, is_overdue, pooled, short, drawn_to, set_to_watch, moved_to, kept_on, seated_from_watch, made_ready};
 ghost use Rattle.types.specs.Answers.{number_of};
 
-#[derive(Drop)]
+#[derive(Clone, Copy)]
 pub struct ShardId(pub u64);
 
-#[derive(Drop)]
+#[derive(Clone, Copy)]
 pub struct ValidatorId(pub u64);
 
-#[derive(Drop)]
+#[derive(Clone, Copy)]
 pub struct Epoch(pub u64);
 
-#[derive(Drop)]
+#[derive(Clone, Copy)]
 pub struct BlockHeight(pub u64);
 
-#[derive(Drop)]
+#[derive(Clone, Copy)]
 pub enum Place {
     Pooled,
     Seated {
@@ -32,13 +33,13 @@ pub enum Place {
     Other(u64),
 }
 
-#[derive(Drop)]
+#[derive(Clone, Copy)]
 pub struct Machine {
     pub id: ValidatorId,
     pub place: Place,
 }
 
-#[derive(Drop)]
+#[derive(Clone, Copy)]
 pub enum Answer {
     Done,
     NotWellFormed,
@@ -57,7 +58,7 @@ pub enum Answer {
 }
 
 // The answer stands between the counts: side by side they would be copied as one, which waits for both to be stored.
-#[derive(Drop)]
+#[derive(Clone, Copy)]
 pub struct Outcome {
     pub handled: u64,
     pub answer: Answer,

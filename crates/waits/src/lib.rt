@@ -1,4 +1,5 @@
 // What a reshape that is not scheduled waits for. Ready seats are counted in drains; reshapes::fields tells whether it drains and is quiet.
+#![tactic(auto)]
 ghost use Rattle.std.specs.Prelude.{◌≡◌, true, ◌<◌, ◌≤◌, length, get_or};
 ghost use Rattle.types.specs.Shards as shards;
 ghost use Rattle.types.specs.Places.{is_seated_on};
@@ -54,7 +55,7 @@ pub fn seats_for(board: &[u64], i: usize, child: ShardId) -> usize
 // ---- members
 
 // How many members are seated on a shard, and how many of them are ready.
-#[derive(Drop)]
+#[derive(Clone, Copy)]
 pub struct Members {
     pub seated: usize,
     pub ready: usize,

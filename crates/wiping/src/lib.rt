@@ -1,4 +1,5 @@
 // Room cleared where it isn't zeros already.
+#![tactic(auto)]
 ghost use Rattle.std.specs.Prelude.{◌≡◌, length, replicate};
 
 use shifts::clear;

@@ -1,0 +1,28 @@
+use mathlib.Core.Path.{refl, sym, ◌∙◌}
+use native.Mathlib.Omega.{arith}
+use Rattle.differences.proofs.Rows.{unequal_long, equal_more, equal_less, equal_done}
+use Rattle.differences.proofs.same_words.Goals as goal
+
+pub returns-then-s-t : goal.returns-then-s-t
+returns-then-s-t c = let a = c.args in sym (unequal_long a.s.now a.t.now c.if-s-t.true)
+
+pub loop-i-init : goal.loop-i-init
+loop-i-init c = (omega arith, refl)
+
+pub returns-then-s-i : goal.returns-then-s-i
+returns-then-s-i c =
+    let l = c in
+    let a = c.args in
+    sym (equal_less a.s.now a.t.now l.loop-i.i (omega arith) (omega arith) c.if-s-i.true) ∙ l.loop-i.invariant.1
+
+pub loop-i-preserved : goal.loop-i-preserved
+loop-i-preserved c =
+    let l = c in
+    let a = c.args in
+    (omega arith, sym (equal_more a.s.now a.t.now l.loop-i.i (omega arith) (omega arith) c.if-s-i.false) ∙ l.loop-i.invariant.1)
+
+pub returns : goal.returns
+returns c =
+    let l = c in
+    let a = c.args in
+    sym (equal_done a.s.now a.t.now l.loop-i.i (omega arith) (omega arith)) ∙ l.loop-i.invariant.1

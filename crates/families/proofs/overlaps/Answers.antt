@@ -1,0 +1,5 @@
+use Rattle.families.proofs.Refusing.{overlap_is}
+use Rattle.families.proofs.overlaps.Goals as goal
+
+pub returns : goal.returns
+returns c = rw (c.parent-below.ensures, c.parent-above.ensures) (overlap_is c.args.t.0 c.args.u.0)

@@ -1,0 +1,5 @@
+use Rattle.gathering.proofs.Gathers.{entrant_is}
+use Rattle.gathering.proofs.enters_at.Goals as goal
+
+pub returns : goal.returns
+returns c = λ b h l. entrant_is _ _ _ _ (c.at-r.ensures b h l)

@@ -1,0 +1,56 @@
+use Prim.Native.Nat.{◌≤◌, ◌<◌}
+use mathlib.Core.Path.{refl, sym, ◌∙◌}
+use mathlib.Core.Bool.{true}
+use native.Mathlib.Omega.{arith}
+use lib.ListN.{length, get_or}
+use Rattle.board.specs.Held.{roomy_committee, no_committee}
+use Rattle.board.proofs.Fitting.{every_at}
+use Rattle.board.proofs.OfCommittees.{room_of}
+use Rattle.gathering.proofs.Gathers.{one_more, all_kept}
+use Rattle.gathering.proofs.gather_seated_at.Goals as goal
+
+pub loop-i-init : goal.loop-i-init
+loop-i-init c = (
+  omega arith,
+  c.rows_within-n.ensures.0,
+  omega arith,
+  c.requires.2,
+  c.requires.3,
+  λ b h ok l.
+      let n = c.member_count.ensures b h l in
+      (c.rows_within-n.ensures.1 (rw n (room_of _ (every_at roomy_committee b.committees _ no_committee h.fits.members l))) ∙ n, record { whole = refl }, record { whole = refl }),
+)
+
+pub loop-i-preserved : goal.loop-i-preserved
+loop-i-preserved c =
+    let a = c.loop-i in
+    let t = c.take_seated-counts.ensures in (
+      omega arith,
+      a.invariant.1,
+      omega (arith, t.0),
+      t.1,
+      t.2,
+      λ b h ok l.
+          let v = a.invariant.5 b h ok l in
+          let m : a.i < length (get_or b.committees c.args.j no_committee).val = omega (arith, v.0, c.loop-i-test.true) in
+          let x = c.member_at.ensures b h l m in
+          (v.0, one_more v.1 m x (t.3 b h ok).0, one_more v.2 m x (t.3 b h ok).1),
+    )
+
+pub shape_of-ready : goal.shape_of-ready
+shape_of-ready c = c.loop-i.invariant.3 ∙ sym c.requires.2
+
+pub shape_of-waiting : goal.shape_of-waiting
+shape_of-waiting c = c.loop-i.invariant.4 ∙ sym c.requires.3
+
+pub returns : goal.returns
+returns c =
+    let a = c.loop-i in (
+      omega arith,
+      a.invariant.3,
+      a.invariant.4,
+      λ b h ok l.
+          let v = a.invariant.5 b h ok l in
+          let e : length (get_or b.committees c.args.j no_committee).val ≤ a.i = omega (arith, v.0, c.loop-i-test.false) in
+          (all_kept v.1 e, all_kept v.2 e),
+    )

@@ -1,0 +1,25 @@
+use mathlib.Core.Path.{refl, sym, ◌∙◌}
+use native.Mathlib.Omega.{arith}
+use Rattle.numerals.proofs.Walks.{run_stops, run_goes_on, run_ends}
+use Rattle.numerals.proofs.piece_end.Goals as goal
+
+pub loop-e-init : goal.loop-e-init
+loop-e-init c = (omega arith, refl)
+
+pub returns-then-between : goal.returns-then-between
+returns-then-between c =
+    let l = c in
+    let z = run_stops l.args.text.now l.loop-e.e (omega arith) (sym c.between.ensures ∙ c.if-between.true) in
+    (omega arith, omega (arith, l.loop-e.invariant.1))
+
+pub loop-e-preserved : goal.loop-e-preserved
+loop-e-preserved c =
+    let l = c in
+    let z = run_goes_on l.args.text.now l.loop-e.e (omega arith) (sym c.between.ensures ∙ c.if-between.false) in
+    (omega arith, omega (arith, l.loop-e.invariant.1))
+
+pub returns : goal.returns
+returns c =
+    let l = c in
+    let z = run_ends l.args.text.now l.loop-e.e (omega arith) in
+    (omega arith, omega (arith, l.loop-e.invariant.1))

@@ -1,0 +1,39 @@
+use mathlib.Core.Path.{refl, sym, ◌∙◌}
+use native.Mathlib.Omega.{arith}
+use Rattle.row_tests.specs.declared.RowKind.TheVariants.{Reshapes}
+use Rattle.unpacking.proofs.Bytes.{total}
+use Rattle.reading.proofs.Streams.{counted, start, section_none, section_over, section_fails, section_more}
+use Rattle.reading.proofs.reshape_rows.reshapes_end.Goals as goal
+
+pub returns-then-at-eq0 : goal.returns-then-at-eq0
+returns-then-at-eq0 c = λ ws h. section_none Reshapes _ ws _ (λ e z p. omega arith)
+
+pub returns-then-bytes-at : goal.returns-then-bytes-at
+returns-then-bytes-at c = λ ws h. section_none Reshapes _ ws _ (λ e z p. omega (arith, (counted _ _ ws _ e p).0, total h))
+
+pub returns-then-n-gt-MOST_RESHAPES : goal.returns-then-n-gt-MOST_RESHAPES
+returns-then-n-gt-MOST_RESHAPES c = λ ws h. section_none Reshapes _ ws _ (λ e z p. omega (arith, (counted _ _ ws _ e p).1, c.word-n.ensures ws h))
+
+pub loop-n-init : goal.loop-n-init
+loop-n-init c = (c.requires, λ ws h. let e = c.word-n.ensures ws h in rw e (start _ _ ws _ (omega (arith, total h)) (omega (arith, e))))
+
+pub reshape_end-a-requires : goal.reshape_end-a-requires
+reshape_end-a-requires c = c.loop-n.invariant.0
+
+pub shape_of-marks-then-a-eq0 : goal.shape_of-marks-then-a-eq0
+shape_of-marks-then-a-eq0 c = c.marks-1.given ∙ c.loop-n.invariant.0 ∙ sym c.requires
+
+pub returns-then-a-eq0 : goal.returns-then-a-eq0
+returns-then-a-eq0 c = λ ws h. section_fails Reshapes _ ws _ _ _ (c.loop-n.invariant.1 ws h) _ c.loop-n-test.true refl _ (c.reshape_end-a.ensures ws h) c.if-a-eq0.true
+
+pub loop-n-preserved : goal.loop-n-preserved
+loop-n-preserved c = (
+  c.marks-1.given ∙ c.loop-n.invariant.0,
+  λ ws h. section_more Reshapes _ ws _ _ _ (c.loop-n.invariant.1 ws h) _ c.loop-n-test.true refl _ (c.reshape_end-a.ensures ws h) (omega arith),
+)
+
+pub shape_of-marks : goal.shape_of-marks
+shape_of-marks c = c.loop-n.invariant.0 ∙ sym c.requires
+
+pub returns : goal.returns
+returns c = λ ws h. section_over Reshapes _ ws _ _ _ (c.loop-n.invariant.1 ws h) (omega arith) (omega arith)

@@ -1,0 +1,14 @@
+use native.Mathlib.Omega.{arith}
+use lib.ListN.{get_or}
+use Rattle.rules.specs.Board.{most_half}
+use Rattle.rules.specs.Snapshot.{id_words}
+use Rattle.tables.proofs.Typed.{emptied_as}
+use Rattle.board.specs.Held.{no_reshape}
+use Rattle.board.proofs.Widths.{id_wide}
+use Rattle.reshapes.proofs.OfReshapes.{left_lent, left_back, left_room}
+use Rattle.reshapes.proofs.halves.clear_left.Goals as goal
+
+pub returns : goal.returns
+returns c = λ b h l.
+    let i = c.args.i in
+    left_back _ b h i l (λ l. []) _ (emptied_as id_words 1 id_wide most_half (get_or b.reshapes i no_reshape).val.left _ _ (left_lent _ b h i l) (left_room _ b h i l) c.empty.ensures) (omega arith)

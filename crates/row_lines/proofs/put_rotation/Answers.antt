@@ -1,0 +1,8 @@
+use Rattle.phrases.specs.Texts.{bytes}
+use Rattle.lines.proofs.Lays.{puts_both}
+use Rattle.row_lines.specs.Rows.{rotation_text}
+use Rattle.row_lines.proofs.put_rotation.Goals as goal
+
+pub returns : goal.returns
+unfolding bytes rotation_text
+returns c = puts_both (puts_both (puts_both c.put_column-a.ensures c.put_column-b.ensures) c.put_column-c.ensures) c.put_column.ensures

@@ -1,0 +1,8 @@
+use mathlib.Core.Path.{refl}
+use Rattle.word_tests.specs.Tests.{all_pass}
+use Rattle.row_tests.specs.Rows.{flags_ok}
+use Rattle.row_tests.proofs.flags_ok.Goals as goal
+
+pub returns : goal.returns
+unfolding flags_ok all_pass
+returns c = refl

@@ -1,0 +1,74 @@
+use mathlib.Core.Path.{sym, ◌∙◌}
+use native.Mathlib.Omega.{arith}
+use Rattle.drains.specs.declared.Plan.TheVariants.{Stamp, Wait, Schedule, Unbounded}
+use Rattle.schedule_splits.proofs.Turns.{row_kept, abort_well, schedule_kept, pass_shut, pass_open}
+use Rattle.schedule_splits.proofs.schedule_halves.Goals as goal
+
+pub returns-then-i-ge-MOST_RESHAPES : goal.returns-then-i-ge-MOST_RESHAPES
+returns-then-i-ge-MOST_RESHAPES c = (
+  (omega arith, omega arith),
+  λ b h ok stay draws m.
+      let g = c.gated_row-i.ensures.1 b h ok in
+      record { board = _; read = m; turn = pass_shut _ b _ stay _ (g.shut c.if-i-ge-MOST_RESHAPES.true); holds = c.abort_rotations.ensures b h ok },
+)
+
+pub plan_at-plan-requires : goal.plan_at-plan-requires
+plan_at-plan-requires c = (c.requires.0, c.if-i-ge-MOST_RESHAPES.false, c.gated_row-i.ensures.0 c.if-i-ge-MOST_RESHAPES.false)
+
+pub schedule-requires : goal.schedule-requires
+schedule-requires c = (c.abort_rotations-in-Schedule.auto.0 ∙ c.requires.0, c.if-i-ge-MOST_RESHAPES.false, c.gated_row-i.ensures.0 c.if-i-ge-MOST_RESHAPES.false, c.requires.1)
+
+pub returns-in-Stamp : goal.returns-in-Stamp
+returns-in-Stamp c = (
+  (omega arith, omega arith),
+  λ b h ok stay draws m.
+      let g = c.gated_row-i.ensures.1 b h ok in
+      let l = c.if-i-ge-MOST_RESHAPES.false in
+      let r = g.row l in
+      record {
+        board = _;
+        read = m;
+        turn = pass_open _ b _ stay _ ok _ r (g.opens l) Stamp (sym c.in-Stamp.is ∙ c.plan_at-plan.ensures b h ok r.inside);
+        holds = c.stamp.ensures _ (c.abort_rotations-in-Stamp.ensures b h ok) (abort_well _ b ok) _ (row_kept _ b _ r);
+      },
+)
+
+pub returns-in-Wait : goal.returns-in-Wait
+returns-in-Wait c = (
+  (omega arith, omega arith),
+  λ b h ok stay draws m.
+      let g = c.gated_row-i.ensures.1 b h ok in
+      let l = c.if-i-ge-MOST_RESHAPES.false in
+      let r = g.row l in
+      record {
+        board = _;
+        read = m;
+        turn = pass_open _ b _ stay _ ok _ r (g.opens l) Wait (sym c.in-Wait.is ∙ c.plan_at-plan.ensures b h ok r.inside);
+        holds = c.abort_rotations-in-Wait.ensures b h ok;
+      },
+)
+
+pub returns-in-Schedule : goal.returns-in-Schedule
+returns-in-Schedule c = (
+  (omega arith, omega arith),
+  λ b h ok stay draws m.
+      let g = c.gated_row-i.ensures.1 b h ok in
+      let l = c.if-i-ge-MOST_RESHAPES.false in
+      let r = g.row l in
+      record {
+        board = _;
+        read = m;
+        turn = pass_open _ b _ stay _ ok _ r (g.opens l) Schedule (sym c.in-Schedule.is ∙ c.plan_at-plan.ensures b h ok r.inside);
+        holds = schedule_kept _ b _ _ _ _ (c.schedule.ensures _ (c.abort_rotations-in-Schedule.ensures b h ok) (abort_well _ b ok) (row_kept _ b _ r));
+      },
+)
+
+pub returns-in-Unbounded : goal.returns-in-Unbounded
+returns-in-Unbounded c = (
+  tt,
+  λ b h ok stay draws m.
+      let g = c.gated_row-i.ensures.1 b h ok in
+      let l = c.if-i-ge-MOST_RESHAPES.false in
+      let r = g.row l in
+      (pass_open _ b _ stay _ ok _ r (g.opens l) Unbounded (sym c.in-Unbounded.is ∙ c.plan_at-plan.ensures b h ok r.inside), h),
+)

@@ -1,0 +1,10 @@
+use Rattle.lines.proofs.Rests.{NoneOf, rest}
+use mathlib.Core.Path.{sym}
+use native.Mathlib.Omega.{arith}
+use lib.ListN.{get_or-eq_default}
+use Rattle.sections.specs.Tables.{widths}
+use Rattle.sections.proofs.row_width.Goals as goal
+
+pub returns-in_default : goal.returns-in_default
+unfolding NoneOf
+returns-in_default c = sym (get_or-eq_default widths 1 (rest 0 7 _ (omega arith) c.in_default.rest))

@@ -1,0 +1,35 @@
+use mathlib.Core.Path.{refl, ap, sym, ◌∙◌}
+use mathlib.Core.Bool.{true}
+use native.Mathlib.Omega.{arith}
+use lib.ListN.{get_or}
+use borrow.Author.Tests.{not-true, not-false}
+use Rattle.unpacking.proofs.Bytes.{total}
+use Rattle.stops.specs.Stop.{setting_tests}
+use Rattle.stops.proofs.Heads.{test_missing, test_fails, test_passes, tests_done, seven_tests}
+use Rattle.stops.proofs.settings.Goals as goal
+
+pub loop-i-init : goal.loop-i-init
+loop-i-init c = (omega arith, λ ws h. refl)
+
+pub returns-then-bytes-i : goal.returns-then-bytes-i
+returns-then-bytes-i c = λ ws h.
+    let l = c in
+    sym (test_missing setting_tests l.loop-i.i ws (omega (arith, seven_tests)) (omega (arith, total h))) ∙ l.loop-i.invariant.1 ws h
+
+pub returns-then-not-setting_ok : goal.returns-then-not-setting_ok
+returns-then-not-setting_ok c = λ ws h.
+    let l = c in
+    let e = ap (get_or setting_tests l.loop-i.i (λ _. true)) (sym (c.word.ensures ws h)) ∙ sym c.setting_ok.ensures ∙ not-true _ c.if-not-setting_ok.true-raw in
+    sym (test_fails setting_tests l.loop-i.i ws (omega (arith, seven_tests)) (omega (arith, total h)) e) ∙ l.loop-i.invariant.1 ws h
+
+pub loop-i-preserved : goal.loop-i-preserved
+loop-i-preserved c =
+    let l = c in (
+      omega arith,
+      λ ws h.
+          let e = ap (get_or setting_tests l.loop-i.i (λ _. true)) (sym (c.word.ensures ws h)) ∙ sym c.setting_ok.ensures ∙ not-false _ c.if-not-setting_ok.false-raw in
+          sym (test_passes setting_tests l.loop-i.i ws (omega (arith, seven_tests)) (omega (arith, total h)) e) ∙ l.loop-i.invariant.1 ws h,
+    )
+
+pub returns : goal.returns
+returns c = λ ws h. let l = c in sym (tests_done setting_tests l.loop-i.i ws (omega (arith, seven_tests))) ∙ l.loop-i.invariant.1 ws h

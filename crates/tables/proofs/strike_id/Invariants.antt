@@ -1,0 +1,14 @@
+use Prim.Native.Nat.{ℕ, ◌-◌, ◌≤◌}
+use mathlib.Core.Path.{◌≡◌}
+use mathlib.Core.List.{List}
+use lib.ListN.{length}
+use Rattle.tables.specs.Rows.{id_table}
+use Rattle.tables.proofs.Sifted.{Striking}
+use Rattle.tables.proofs.strike_id.Given as goal
+
+abbrev pub invariant-loop-i : goal.invariant-loop-i
+invariant-loop-i l =     (l.k ≤ l.i) × (l.i ≤ l.n) × (l.n ≤ l.cap) × (length l.t ≡ length l.initial.t)
+    × ((l : List ℕ) → l.initial.t ≡ id_table l.cap l → length l ≤ l.cap → (l.n ≡ length l) × Striking l.cap l.x l l.t l.i l.k)
+
+abbrev pub decreases-loop-i : goal.decreases-loop-i
+decreases-loop-i l = l.n - l.i

@@ -1,0 +1,5 @@
+use Rattle.wellformed.proofs.Sections.{shards_are}
+use Rattle.wellformed.proofs.shards_ok.Goals as goal
+
+pub returns : goal.returns
+returns c = shards_are _ _ _ c.committees_ok.ensures c.boundaries_ok.ensures
