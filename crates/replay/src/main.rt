@@ -1,5 +1,6 @@
 // Makes the recorded calls again, by the exports, and says of how many the answer, the counts and the board are as recorded.
 #![tactic(auto)]
+
 use libc::STDOUT_FILENO;
 
 mod calls;

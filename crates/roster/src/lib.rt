@@ -1,5 +1,6 @@
 // The door of the library: functions of numbers and slices, for C and Rust to call.
 #![tactic(auto)]
+
 ghost use Rattle.std.specs.Prelude.{◌≡◌, [], ◌∷◌};
 ghost use Rattle.types.specs.Answers.{number_of};
 ghost use Rattle.board.specs.Layout.{board_size};

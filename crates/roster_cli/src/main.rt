@@ -1,5 +1,6 @@
 // The clerk's command: snapshots shown, checked, compared and tried.
 #![tactic(auto)]
+
 mod args;
 mod calls;
 mod checks;
