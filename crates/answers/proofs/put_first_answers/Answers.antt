@@ -3,7 +3,7 @@ use mathlib.Core.Path.{◌≡◌}
 use native.Mathlib.Omega.{arith}
 use Rattle.phrases.specs.Texts.{bytes}
 use Rattle.answers.specs.Answers.{answers, answer_text}
-use Rattle.lines.proofs.Rests.{NoneOf, rest}
+use Rattle.lines.proofs.Rests.{NoneOf}
 use Rattle.answers.proofs.put_first_answers.Goals as goal
 
 sixth : (n : ℕ) → 6 ≤ n → n < 7 → n ≡ 6
