@@ -1,3 +1,4 @@
+use native.Mathlib.Omega.{arith}
 use lib.ListN.{get_or-eq_default}
 use Rattle.phrases.specs.Texts.{bytes}
 use Rattle.answers.specs.Answers.{answers, answer_text}
