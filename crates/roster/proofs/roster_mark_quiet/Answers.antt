@@ -1,0 +1,11 @@
+use Rattle.roster.proofs.Exports.{asked_wide, export_refuses, export_answers}
+use Rattle.roster.proofs.roster_mark_quiet.Goals as goal
+
+pub returns-then-not-well_formed : goal.returns-then-not-well_formed
+returns-then-not-well_formed c = export_refuses c.well_formed-2.ensures c.if-not-well_formed.true-raw c.refuse.ensures
+
+pub mark_quiet_held-told-requires : goal.mark_quiet_held-told-requires
+mark_quiet_held-told-requires c = asked_wide c.well_formed-2.ensures c.if-not-well_formed.false-raw
+
+pub returns : goal.returns
+returns c = export_answers c.well_formed-2.ensures c.if-not-well_formed.false-raw c.mark_quiet_held-told.ensures c.tell.ensures
