@@ -1,5 +1,6 @@
 // The admissions of a split and of a merge. Each step plans, then applies: every refusal comes before the first write.
 #![tactic(auto)]
+
 ghost use Rattle.std.specs.Prelude.{◌≡◌, true, List, ℕ, ◌+◌, ◌≤◌, length};
 ghost use Rattle.std.proofs.Math.Option.{none};
 ghost use Rattle.rules.specs.Table.{at};

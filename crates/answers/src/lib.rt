@@ -1,5 +1,6 @@
 // What an answer's number means, put in a line.
 #![tactic(auto)]
+
 ghost use Rattle.std.specs.Prelude.{◌≤◌, ◌<◌};
 ghost use Rattle.lines.specs.Says.{Puts};
 ghost use Rattle.answers.specs.Answers.{answer_text};

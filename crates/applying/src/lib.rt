@@ -1,5 +1,6 @@
 // A snapshot read, a step made on its board and the next snapshot written: the board's rules are asked once.
 #![tactic(auto)]
+
 ghost use Rattle.std.specs.Prelude.{◌≡◌, true, ◌≤◌, length};
 ghost use Rattle.std.proofs.Math.Option.{some};
 ghost use Rattle.rules.specs.Board.{Board};

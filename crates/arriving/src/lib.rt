@@ -1,5 +1,6 @@
 // What both cuts share: a machine that comes to a new shard, and the records of those who have a seat.
 #![tactic(auto)]
+
 ghost use Rattle.std.specs.Prelude.{◌≡◌, [], ◌∷◌, true, ◌<◌, length, get_or};
 ghost use Rattle.rules.specs.Lists.{every};
 ghost use Rattle.rules.specs.Table.{stands, keys_of};

@@ -1,5 +1,6 @@
 // The steps over several shards: which they go through, found before the first turn.
 #![tactic(auto)]
+
 ghost use Rattle.std.specs.Prelude.{◌≡◌, ◌++◌, ◌+◌, ◌<◌, ◌≤◌, length, get_or, take};
 ghost use Rattle.rules.specs.Board.{Board, most_reshapes};
 ghost use Rattle.board.specs.Layout.{board_size};

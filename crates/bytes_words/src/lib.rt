@@ -1,5 +1,6 @@
 // Words as bytes, eight each, the least first: read at a place, and laid from a place on.
 #![tactic(auto)]
+
 ghost use Rattle.std.specs.Prelude.{◌≡◌, [], ◌∷◌, ◌+◌, ◌*◌, ◌<◌, ◌≤◌, length, take, drop};
 ghost use Rattle.rules.specs.Board.{last_word};
 ghost use Rattle.rules.specs.Snapshot.{value_of_bytes, read_words};

@@ -1,5 +1,6 @@
 // Scheduled splits: no rotation on the target, and each machine seated there in exactly one half.
 #![tactic(auto)]
+
 ghost use Rattle.std.specs.Prelude.{◌≡◌, true, not, ◌<◌, length, get_or};
 ghost use Rattle.rules.specs.Lists.{every, any};
 ghost use Rattle.rules.specs.Board.{Board, most_reshapes};

@@ -1,5 +1,6 @@
 // Cut merges: the parent takes over, shard by shard. A turn plans, then applies: every refusal comes before the first write.
 #![tactic(auto)]
+
 ghost use Rattle.std.specs.Prelude.{◌≡◌, [], true, ◌≤◌, ◌<◌, length, get_or};
 ghost use Rattle.rules.specs.Board.{Board, merge, most_reshapes, last_target};
 ghost use Rattle.rules.specs.WellFormed.{is_word, well_formed};

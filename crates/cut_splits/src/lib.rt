@@ -1,5 +1,6 @@
 // Cut splits: the children take over, shard by shard. A turn plans, then applies: every refusal comes before the first write.
 #![tactic(auto)]
+
 ghost use Rattle.std.specs.Prelude.{◌≡◌, [], ◌++◌, true, ◌≤◌, ◌<◌, length, get_or};
 ghost use Rattle.rules.specs.Lists.{every};
 ghost use Rattle.rules.specs.Table.{stands, keys_of};

@@ -1,5 +1,6 @@
 // Two tables walked together by key: what stands in one alone, or in both with other words.
 #![tactic(auto)]
+
 ghost use Rattle.std.specs.Prelude.{◌≡◌, List, ℕ, ◌+◌, ◌*◌, ◌<◌, ◌≤◌, length, take, drop};
 ghost use Rattle.rules.specs.Lists.{equal};
 ghost use Rattle.tables.specs.Rows.{Row};

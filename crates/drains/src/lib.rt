@@ -1,5 +1,6 @@
 // A reshape on its way to its terminal: ready seats counted, the drain planned, then applied.
 #![tactic(auto)]
+
 ghost use Rattle.std.specs.Prelude.{◌≡◌, ◌+◌, ◌<◌, ◌≤◌, true, [], length, nat_le, slice_index_or};
 ghost use Rattle.types.specs.Numbers.{Shard};
 ghost use Rattle.types.specs.Shards.{quorum};

@@ -1,5 +1,6 @@
 // A reader over lent draws as one value: it holds the lent list and how far it is read.
 #![tactic(auto)]
+
 ghost use Rattle.std.specs.Prelude.{◌≡◌};
 ghost use Rattle.draw_readers.specs.Reads.{draw_at, read_by};
 

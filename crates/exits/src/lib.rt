@@ -1,5 +1,6 @@
 // A machine leaves its place: what is asked before the first write, and what is then written.
 #![tactic(auto)]
+
 ghost use Rattle.std.specs.Prelude.{◌≡◌, true, false, ◌<◌, ◌≤◌, length, get_or, drop};
 ghost use Rattle.types.specs.Places.{is_pooled, short};
 ghost use Rattle.rules.specs.Board.{Board, split, most_machines};

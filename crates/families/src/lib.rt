@@ -1,5 +1,6 @@
 // What refuses an admission before its draws.
 #![tactic(auto)]
+
 ghost use Rattle.std.specs.Prelude.{◌≡◌, true, ◌≤◌, length};
 ghost use Rattle.rules.specs.Table.{stands};
 ghost use Rattle.rules.specs.Board.{Board, last_target};

@@ -1,5 +1,6 @@
 // What breaks a clause of the seat check, in words.
 #![tactic(auto)]
+
 ghost use Rattle.lines.specs.Says.{Puts};
 ghost use Rattle.fault_lines.specs.Faults.{machine_wrong, machine_fault_text, rotation_fault_text, rotation_wrong, reshape_wrong, reshape_fault_text};
 

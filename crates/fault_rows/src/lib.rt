@@ -1,5 +1,6 @@
 // The seat check clause by clause: the rows that each walks, and which of them breaks it next.
 #![tactic(auto)]
+
 ghost use Rattle.std.specs.Prelude.{◌≡◌, true, ◌≤◌, ◌<◌, length};
 ghost use Rattle.rules.specs.Board.{Board, most_rotations};
 ghost use Rattle.rules.specs.WellFormed.{well_formed};

@@ -1,6 +1,7 @@
 // For each clause of the seat check the next row, from a place on, that breaks it; the end of the rows where none does.
 // Which test of the row failed is asked of occupancy, parties, carved and families.
 #![tactic(auto)]
+
 ghost use Rattle.std.specs.Prelude.{◌≡◌, true, ◌<◌, ◌≤◌, length};
 ghost use Rattle.rules.specs.Board.{Board, most_committees, most_rotations, most_reshapes};
 ghost use Rattle.rules.specs.WellFormed.{well_formed};

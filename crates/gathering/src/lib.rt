@@ -1,5 +1,6 @@
 // The members of a shard's committee that a step draws among, in lent lists.
 #![tactic(auto)]
+
 ghost use Rattle.std.specs.Prelude.{◌≡◌, ◌++◌, true, ◌+◌, ◌<◌, ◌≤◌, length, get_or, take, drop};
 ghost use Rattle.rules.specs.Lists.{keep, has, sort};
 ghost use Rattle.rules.specs.Board.{Board, most_committees, most_members, most_rotations};

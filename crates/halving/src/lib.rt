@@ -1,5 +1,6 @@
 // A split's halves: whether each reaches quorum, and both stored with the terminal.
 #![tactic(auto)]
+
 ghost use Rattle.std.specs.Prelude.{◌≡◌, [], ◌∷◌, ◌++◌, true, ◌+◌, ◌<◌, ◌≤◌, leb, length, get_or};
 ghost use Rattle.types.specs.Shards.{quorum};
 ghost use Rattle.types.specs.Places.{is_ready};

@@ -1,5 +1,6 @@
 // Lists of ids told by a snapshot's bytes, without a copy of them.
 #![tactic(auto)]
+
 ghost use Rattle.std.specs.Prelude.{◌≡◌, List, not, ◌||◌, ℕ, ◌+◌, ◌/◌, ◌≤◌, length, take, drop};
 ghost use Rattle.rules.specs.Lists.{has, distinct};
 ghost use Rattle.word_tests.specs.Tests.{mark_count};

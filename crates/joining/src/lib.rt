@@ -1,5 +1,6 @@
 // A machine joins a committee: its place replaced, whether it may join, and the member more.
 #![tactic(auto)]
+
 ghost use Rattle.std.specs.Prelude.{◌≡◌, [], ◌∷◌, true, ◌<◌, length, get_or};
 ghost use Rattle.rules.specs.Board.{Board, most_machines, most_committees};
 ghost use Rattle.rules.specs.Moves as moves;

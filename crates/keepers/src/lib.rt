@@ -1,5 +1,6 @@
 // A merge's keepers, drawn into a lent list.
 #![tactic(auto)]
+
 ghost use Rattle.std.specs.Prelude.{◌≡◌, ◌++◌, true, ◌+◌, ◌≤◌, length, take, drop};
 ghost use Rattle.rules.specs.Board.{Board, most_members, most_seats, last_target};
 ghost use Rattle.rules.specs.WellFormed.{well_formed};

@@ -1,5 +1,6 @@
 // A cohort sent back: pooled where it observes the target, and struck from the target's committee.
 #![tactic(auto)]
+
 ghost use Rattle.std.specs.Prelude.{◌≡◌, true, ◌<◌, ◌≤◌, length, get_or};
 ghost use Rattle.types.specs.Places.{observes};
 ghost use Rattle.rules.specs.Lists.{bit_of, count};

@@ -1,5 +1,6 @@
 // The steps that change no committee: tick and the ready timeout.
 #![tactic(auto)]
+
 ghost use Rattle.std.specs.Prelude.{◌≡◌, ◌≤◌, ◌<◌, length, get_or};
 ghost use Rattle.types.specs.Places.{is_overdue};
 ghost use Rattle.rules.specs.Board.{Board, most_machines, on_machines};

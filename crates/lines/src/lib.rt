@@ -1,5 +1,6 @@
 // A line of bytes, laid from the left in lent room: what does not fit is cut.
 #![tactic(auto)]
+
 ghost use Rattle.std.specs.Prelude.{◌≡◌, ◌-◌, min, take};
 ghost use Rattle.lines.specs.Says.{Puts};
 ghost use Rattle.lines.specs.Numeral.{spaces, numeral};

@@ -1,5 +1,6 @@
 // The marks on a reshape: a seat ready, a side quiet. Each step plans, then applies: every refusal comes before the first write.
 #![tactic(auto)]
+
 ghost use Rattle.std.specs.Prelude.{◌≡◌, ◌<◌, ◌≤◌, eqb, length, get_or};
 ghost use Rattle.rules.specs.Lists.{◌or◌};
 ghost use Rattle.rules.specs.Board.{Board, merge, most_reshapes, most_seats, on_reshapes};

@@ -1,5 +1,6 @@
 // The moves off a shard, on lent words: a place, a member and a seat, by key.
 #![tactic(auto)]
+
 ghost use Rattle.std.specs.Prelude.{◌≡◌, true, ◌<◌, length, get_or};
 ghost use Rattle.rules.specs.Board.{Board, most_reshapes};
 ghost use Rattle.rules.specs.WellFormed.{well_formed};

@@ -1,5 +1,6 @@
 // Numbers read from text.
 #![tactic(auto)]
+
 ghost use Rattle.std.specs.Prelude.{◌≡◌, [], ◌∷◌, ◌+◌, ◌≤◌, length, drop};
 ghost use Rattle.numerals.specs.Decimal.{value_from, in_word, decimal_of, numeral_of};
 ghost use Rattle.numerals.specs.Pieces.{pieces_of, numbers_of, laid_over, end_of, run_of};

@@ -1,5 +1,6 @@
 // Who stands where: committees, machines and cohorts name each other.
 #![tactic(auto)]
+
 ghost use Rattle.std.specs.Prelude.{◌≡◌, true, ◌<◌, length, get_or};
 ghost use Rattle.rules.specs.Lists.{has};
 ghost use Rattle.rules.specs.Board.{Board, most_committees, most_reshapes};

@@ -1,5 +1,6 @@
 // A board's words without the room past each count: how many they are, and laid as bytes.
 #![tactic(auto)]
+
 ghost use Rattle.std.specs.Prelude.{◌≡◌, ◌+◌, ◌-◌, ◌*◌, ◌≤◌, length};
 ghost use Rattle.board.specs.Layout.{committee_width, reshape_width, bounds_at, board_size};
 ghost use Rattle.packing.specs.Packed.{count_of, flat, committee, reshape, width_of, row_of, nested, from_bounds, packed};

@@ -1,5 +1,6 @@
 // The parties of a shard's rotations: seated there, and no machine twice.
 #![tactic(auto)]
+
 ghost use Rattle.std.specs.Prelude.{◌≡◌, true, ◌+◌, ◌<◌, length, get_or, drop};
 ghost use Rattle.types.specs.Places.{is_seated_on};
 ghost use Rattle.rules.specs.Board.{Board, most_rotations};

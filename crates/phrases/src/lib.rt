@@ -1,5 +1,6 @@
 // Names, numbers and places, put in a line.
 #![tactic(auto)]
+
 ghost use Rattle.std.specs.Prelude.{◌++◌, if◌then◌else◌};
 ghost use Rattle.lines.specs.Says.{Puts};
 ghost use Rattle.lines.specs.Numeral.{numeral};

@@ -1,5 +1,6 @@
 // The pool: the machines that wait for a seat, a draw from them, and one that is seated; what a turn tells.
 #![tactic(auto)]
+
 ghost use Rattle.std.specs.Prelude.{◌≡◌, [], ◌∷◌, true, ◌<◌, ◌≤◌, length, get_or, drop};
 ghost use Rattle.rules.specs.Board.{Board, most_machines, epoch_of};
 ghost use Rattle.types.specs.Places.{drawn_to};

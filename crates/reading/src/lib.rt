@@ -1,5 +1,6 @@
 // Bytes to the lent words of a board: first whether they are a well-formed board's snapshot, then its words.
 #![tactic(auto)]
+
 ghost use Rattle.std.specs.Prelude.{◌≡◌, List, false, cond, ℕ, ◌+◌, ◌*◌, ◌/◌, ◌%◌, ◌≤◌, eqb, length, drop};
 ghost use Rattle.word_tests.specs.Tests.{mark_count, rises};
 ghost use Rattle.rules.specs.Board.{most_machines, most_committees, most_bounds, most_rotations};

@@ -1,5 +1,6 @@
 // The tables of a family at its cut, on lent words. The reshape's own row stays, since its lists are read after: it goes last.
 #![tactic(auto)]
+
 ghost use Rattle.std.specs.Prelude.{◌≡◌, [], true, ◌<◌, ◌≤◌, length};
 ghost use Rattle.types.specs.Numbers.{Height};
 ghost use Rattle.rules.specs.Table.{put, remove};

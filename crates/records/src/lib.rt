@@ -1,5 +1,6 @@
 // One machine's record lent to be changed: its place is rewritten by the place's own move.
 #![tactic(auto)]
+
 ghost use Rattle.std.specs.Prelude.{◌≡◌};
 ghost use Rattle.types.specs.Places.{moved_to, made_ready, seated_from_watch, pooled};
 

@@ -1,5 +1,6 @@
 // Resolve: the list is fixed when the call begins, by a mark for each rotation; then those marked are closed in order.
 #![tactic(auto)]
+
 ghost use Rattle.std.specs.Prelude.{◌≡◌, true, ◌+◌, ◌≤◌, ◌<◌, length, get_or};
 ghost use Rattle.rules.specs.Board.{Board, most_rotations};
 ghost use Rattle.rules.specs.WellFormed.{well_formed};

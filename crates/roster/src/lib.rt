@@ -1,5 +1,6 @@
-// The door of the library: functions of numbers and slices, for C and Rust to call.
+// The door of the library: functions of numbers and slices, for the exports of `roster_c` to call.
 #![tactic(auto)]
+
 ghost use Rattle.std.specs.Prelude.{◌≡◌, [], ◌∷◌};
 ghost use Rattle.types.specs.Answers.{number_of};
 ghost use Rattle.board.specs.Layout.{board_size};
@@ -16,24 +17,21 @@ ghost use Rattle.roster.specs.Exported.{ExportedStep, ExportedCheck, ExportedWri
 use types::{Answer, Outcome, ShardId, ValidatorId};
 
 // How many words a board is: lend exactly as many.
-#[unsafe(no_mangle)]
-pub extern "C" fn roster_words() -> u64
+pub fn roster_words() -> u64
     ensures { result ≡ board_size }
 {
     5861
 }
 
 // The most bytes that a snapshot has.
-#[unsafe(no_mangle)]
-pub extern "C" fn roster_snapshot_most() -> u64
+pub fn roster_snapshot_most() -> u64
     ensures { result ≡ 46816 }
 {
     46816
 }
 
 // 1 if the words hold a well-formed board, else 0.
-#[unsafe(no_mangle)]
-pub extern "C" fn roster_well_formed(board: &[u64]) -> u64
+pub fn roster_well_formed(board: &[u64]) -> u64
     ensures { ExportedCheck WellHeld board.now result }
 {
     if wellformed::well_formed(board) {
@@ -43,8 +41,7 @@ pub extern "C" fn roster_well_formed(board: &[u64]) -> u64
 }
 
 // 1 if the words hold a board that passes the seat check, else 0.
-#[unsafe(no_mangle)]
-pub extern "C" fn roster_seat_check(board: &[u64]) -> u64
+pub fn roster_seat_check(board: &[u64]) -> u64
     ensures { ExportedCheck SeatedWell board.now result }
 {
     if seats::seat_check(board) {
@@ -54,8 +51,7 @@ pub extern "C" fn roster_seat_check(board: &[u64]) -> u64
 }
 
 // The board whose snapshot the bytes are, into lent words; words past the board stay as they are.
-#[unsafe(no_mangle)]
-pub extern "C" fn roster_read(snapshot: &[u8], board: &mut [u64]) -> u64
+pub fn roster_read(snapshot: &[u8], board: &mut [u64]) -> u64
     ensures { ExportedRead snapshot.now board.old board.new result }
 {
     let answer = reading::read_snapshot(snapshot, board);
@@ -63,8 +59,7 @@ pub extern "C" fn roster_read(snapshot: &[u8], board: &mut [u64]) -> u64
 }
 
 // The board's snapshot into lent bytes, and how many it has.
-#[unsafe(no_mangle)]
-pub extern "C" fn roster_write(board: &[u64], snapshot: &mut [u8], length: &mut u64) -> u64
+pub fn roster_write(board: &[u64], snapshot: &mut [u8], length: &mut u64) -> u64
     ensures { ExportedWrite board.now snapshot.old length.old snapshot.new length.new result }
 {
     let answer = snapshot::write_snapshot(board, snapshot, length);
@@ -89,8 +84,7 @@ fn refuse(results: &mut [u64; 2]) -> u64
     answer.number()
 }
 
-#[unsafe(no_mangle)]
-pub extern "C" fn roster_tick(board: &mut [u64], results: &mut [u64; 2]) -> u64
+pub fn roster_tick(board: &mut [u64], results: &mut [u64; 2]) -> u64
     ensures { ExportedStep tick board.old board.new result results.new }
 {
     if !wellformed::well_formed(board) {
@@ -100,8 +94,7 @@ pub extern "C" fn roster_tick(board: &mut [u64], results: &mut [u64; 2]) -> u64
     tell(told, results)
 }
 
-#[unsafe(no_mangle)]
-pub extern "C" fn roster_time_out(board: &mut [u64], results: &mut [u64; 2]) -> u64
+pub fn roster_time_out(board: &mut [u64], results: &mut [u64; 2]) -> u64
     ensures { ExportedStep time_out board.old board.new result results.new }
 {
     if !wellformed::well_formed(board) {
@@ -111,8 +104,7 @@ pub extern "C" fn roster_time_out(board: &mut [u64], results: &mut [u64; 2]) -> 
     tell(told, results)
 }
 
-#[unsafe(no_mangle)]
-pub extern "C" fn roster_mark_seat_ready(
+pub fn roster_mark_seat_ready(
     board: &mut [u64],
     target: u64,
     machine: u64,
@@ -127,8 +119,7 @@ pub extern "C" fn roster_mark_seat_ready(
     tell(told, results)
 }
 
-#[unsafe(no_mangle)]
-pub extern "C" fn roster_mark_quiet(
+pub fn roster_mark_quiet(
     board: &mut [u64],
     target: u64,
     side: u64,
@@ -143,8 +134,7 @@ pub extern "C" fn roster_mark_quiet(
     tell(told, results)
 }
 
-#[unsafe(no_mangle)]
-pub extern "C" fn roster_leave(
+pub fn roster_leave(
     board: &mut [u64],
     machine: u64,
     draws: &[u64],
@@ -163,8 +153,7 @@ pub extern "C" fn roster_leave(
     tell(told, results)
 }
 
-#[unsafe(no_mangle)]
-pub extern "C" fn roster_rotate(
+pub fn roster_rotate(
     board: &mut [u64],
     shard: u64,
     machine: u64,
@@ -185,8 +174,7 @@ pub extern "C" fn roster_rotate(
     tell(told, results)
 }
 
-#[unsafe(no_mangle)]
-pub extern "C" fn roster_resolve(board: &mut [u64], results: &mut [u64; 2]) -> u64
+pub fn roster_resolve(board: &mut [u64], results: &mut [u64; 2]) -> u64
     ensures { ExportedStep resolve board.old board.new result results.new }
 {
     if !wellformed::well_formed(board) {
@@ -196,8 +184,7 @@ pub extern "C" fn roster_resolve(board: &mut [u64], results: &mut [u64; 2]) -> u
     tell(told, results)
 }
 
-#[unsafe(no_mangle)]
-pub extern "C" fn roster_admit_split(board: &mut [u64], target: u64, results: &mut [u64; 2]) -> u64
+pub fn roster_admit_split(board: &mut [u64], target: u64, results: &mut [u64; 2]) -> u64
     ensures { ExportedStep (admit_split target) board.old board.new result results.new }
 {
     if !wellformed::well_formed(board) {
@@ -207,8 +194,7 @@ pub extern "C" fn roster_admit_split(board: &mut [u64], target: u64, results: &m
     tell(told, results)
 }
 
-#[unsafe(no_mangle)]
-pub extern "C" fn roster_admit_merge(
+pub fn roster_admit_merge(
     board: &mut [u64],
     target: u64,
     draws: &[u64],
@@ -223,8 +209,7 @@ pub extern "C" fn roster_admit_merge(
     tell(told, results)
 }
 
-#[unsafe(no_mangle)]
-pub extern "C" fn roster_draw_cohort(
+pub fn roster_draw_cohort(
     board: &mut [u64],
     target: u64,
     draws: &[u64],
@@ -239,8 +224,7 @@ pub extern "C" fn roster_draw_cohort(
     tell(told, results)
 }
 
-#[unsafe(no_mangle)]
-pub extern "C" fn roster_lapse(board: &mut [u64], target: u64, results: &mut [u64; 2]) -> u64
+pub fn roster_lapse(board: &mut [u64], target: u64, results: &mut [u64; 2]) -> u64
     ensures { ExportedStep (lapse target) board.old board.new result results.new }
 {
     if !wellformed::well_formed(board) {
@@ -250,8 +234,7 @@ pub extern "C" fn roster_lapse(board: &mut [u64], target: u64, results: &mut [u6
     tell(told, results)
 }
 
-#[unsafe(no_mangle)]
-pub extern "C" fn roster_schedule_splits(
+pub fn roster_schedule_splits(
     board: &mut [u64],
     draws: &[u64],
     results: &mut [u64; 2],
@@ -265,8 +248,7 @@ pub extern "C" fn roster_schedule_splits(
     tell(told, results)
 }
 
-#[unsafe(no_mangle)]
-pub extern "C" fn roster_schedule_merges(board: &mut [u64], results: &mut [u64; 2]) -> u64
+pub fn roster_schedule_merges(board: &mut [u64], results: &mut [u64; 2]) -> u64
     ensures { ExportedStep schedule_merges board.old board.new result results.new }
 {
     if !wellformed::well_formed(board) {
@@ -276,8 +258,7 @@ pub extern "C" fn roster_schedule_merges(board: &mut [u64], results: &mut [u64; 
     tell(told, results)
 }
 
-#[unsafe(no_mangle)]
-pub extern "C" fn roster_cut_splits(board: &mut [u64], results: &mut [u64; 2]) -> u64
+pub fn roster_cut_splits(board: &mut [u64], results: &mut [u64; 2]) -> u64
     ensures { ExportedStep cut_splits board.old board.new result results.new }
 {
     if !wellformed::well_formed(board) {
@@ -287,8 +268,7 @@ pub extern "C" fn roster_cut_splits(board: &mut [u64], results: &mut [u64; 2]) -
     tell(told, results)
 }
 
-#[unsafe(no_mangle)]
-pub extern "C" fn roster_cut_merges(board: &mut [u64], results: &mut [u64; 2]) -> u64
+pub fn roster_cut_merges(board: &mut [u64], results: &mut [u64; 2]) -> u64
     ensures { ExportedStep cut_merges board.old board.new result results.new }
 {
     if !wellformed::well_formed(board) {
@@ -300,8 +280,7 @@ pub extern "C" fn roster_cut_merges(board: &mut [u64], results: &mut [u64; 2]) -
 
 // A read, the step of that number on the board read, and a write of what it left: as the three one after another, but that
 // the board's rules are asked once. The results are those of the step and the length of the snapshot.
-#[unsafe(no_mangle)]
-pub extern "C" fn roster_apply(
+pub fn roster_apply(
     snapshot: &[u8],
     step: u64,
     first: u64,

@@ -1,5 +1,6 @@
 // Rotate with its draws from a reader: the step on the draws that are not yet read, and the reader moved on by those it used.
 #![tactic(auto)]
+
 ghost use Rattle.std.specs.Prelude.{◌≡◌, ◌+◌, ◌≤◌, length, drop};
 ghost use Rattle.rules.specs.Places.{rotate};
 ghost use Rattle.board.specs.Permitted.{PermittedStep};

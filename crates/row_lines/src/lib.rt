@@ -1,5 +1,6 @@
 // The rows of a roster's tables, in words.
 #![tactic(auto)]
+
 ghost use Rattle.lines.specs.Says.{Puts};
 ghost use Rattle.row_lines.specs.Rows.{member_row_text, rotation_text, seat_text, boundary_text, ends_text, reshape_text, quiet_text, progress_text};
 

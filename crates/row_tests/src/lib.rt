@@ -1,5 +1,6 @@
 // Tests of a row's words, of each kind of table.
 #![tactic(auto)]
+
 ghost use Rattle.std.specs.Prelude.{◌≡◌, [], ◌∷◌, false, ◌≤◌, length};
 ghost use Rattle.board.specs.Layout.{machine_width, committee_width, boundary_width, rotation_width, seat_width, seats_at, reshape_width};
 ghost use Rattle.word_tests.specs.Tests.{at, mark_count, rises, first_ok};

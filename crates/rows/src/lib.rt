@@ -1,5 +1,6 @@
 // Where a row stands, by its key.
 #![tactic(auto)]
+
 ghost use Rattle.std.specs.Prelude.{◌≡◌, Bool, true, false, ◌+◌, ◌<◌, length, get_or};
 ghost use Rattle.types.specs.Numbers.{Shard};
 ghost use Rattle.types.specs.declared.Place as declared;

@@ -2,7 +2,7 @@
 use mathlib.Core.Path.{◌≡◌, refl, sym, subst, ◌∙◌}
 use mathlib.Core.List.{List, [], ◌∷◌}
 use mathlib.Core.Option.{Option, none, some}
-use mathlib.Core.Bool.{Bool, true, false, cond, false≢true}
+use mathlib.Core.Bool.{Bool, true, false, cond, not, false≢true}
 use Prim.Native.Nat.{ℕ}
 use lib.ListN.{length, take}
 use Rattle.types.specs.Numbers.{Shard, Id, Epoch}
@@ -13,10 +13,11 @@ use Rattle.types.specs.declared.Answer.{Answer}
 use Rattle.types.specs.declared.Answer.TheVariants.{Done, NotWellFormed, OutOfRange, NoRecord, NoBoundary, NotThere, DrawMissing, DrawTooLarge, NoRoom, PoolTooSmall}
 use Rattle.rules.specs.Lists.{◌and◌, ◌or◌, every, any, has}
 use Rattle.rules.specs.Table.{Table, at}
-use Rattle.rules.specs.Board.{Kind, split, merge, Seat, Reshape, Board, size_of}
+use Rattle.rules.specs.Board.{Kind, split, merge, Seat, Reshape, Board, epoch_of, size_of}
 use Rattle.rules.specs.WellFormed.{well_formed}
 use Rattle.rules.specs.Draws.{Drawn, drew, missing, too_large, draw_from}
-use Rattle.rules.specs.Moves.{pool_of, is_party}
+use Rattle.types.specs.Places.{drawn_to}
+use Rattle.rules.specs.Moves.{pool_of, put_on, may_join, is_party}
 use Rattle.rules.specs.Turns.{Turn, finished, refused, Fault, ◌gives◌, checked, drawn, unless_well_formed, alone, in_turn, batch, pool_draw}
 use Rattle.rules.specs.Places as places
 use Rattle.rules.specs.Reshapes as reshapes
@@ -116,7 +117,7 @@ module _ (l : List ℕ) where
 
     pub may_pool : Among l NoRoom → (s : Shard) (full : Bool) (also : Id → Board → Board) (draws : List ℕ) (b : Board) → May (pool_draw s full also draws b)
     unfolding pool_draw
-    may_pool r s full also draws b = may_draw (draw_from (pool_of b) draws) _ (λ o left. elim o [
+    may_pool r s full also draws b = may_draw (draw_from (pool_of b) draws) _ (λ o left. elim o as (λ k. May (elim k as (λ x. Turn) [ none ↦ finished 0 left b | some x ↦ checked (not (may_join s (x ∷ []) b) gives NoRoom ∷ full gives NoRoom ∷ []) (finished 1 left (also x (put_on s (drawn_to s (epoch_of b)) x b))) ])) [
       | none ↦ tt
       | some x ↦ may_check _ _ (every_join _ _ _ r (every_join _ _ _ r (every_none _))) tt
     ])

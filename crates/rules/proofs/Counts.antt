@@ -1,5 +1,5 @@
 -- How often a number stands in a list. One equation on counts says both "is there" and "is there once".
-use mathlib.Core.Path.{◌≡◌, refl, ap, sym, ◌∙◌}
+use mathlib.Core.Path.{subst, ◌≡◌, refl, ap, sym, ◌∙◌}
 use mathlib.Core.Logic.{◌≢◌}
 use mathlib.Core.List.{List, [], ◌∷◌, ◌++◌}
 use mathlib.Core.Bool.{Bool, true, false, cond, not, true≢false}
@@ -103,9 +103,12 @@ unfolding occ keep
 occ_keep f x [] = sym (cond_const (f x) 0)
 occ_keep f x (y ∷ l) = go (alike x y) (f y) refl (occ_keep f x l)
   where
+    here : (c : Bool) → f y ≡ c → occ y (keep f l) ≡ cond (f y) (occ y l) 0 → occ y (keep f (y ∷ l)) ≡ cond (f y) (occ y (y ∷ l)) 0
+    here true u h = rw u (rw u at (ap (λ n. hit y y + n) h))
+    here false u h = rw u (rw u at h)
+
     go : Alike x y → (c : Bool) → f y ≡ c → occ x (keep f l) ≡ cond (f x) (occ x l) 0 → occ x (keep f (y ∷ l)) ≡ cond (f x) (occ x (y ∷ l)) 0
-    go (same e t) true u h = rw (e, u) (rw (e, u) at (ap (λ n. hit y y + n) h))
-    go (same e t) false u h = rw (e, u) (rw (e, u) at h)
+    go (same e t) c u h = subst (λ (z : ℕ). occ z (keep f (y ∷ l)) ≡ cond (f z) (occ z (y ∷ l)) 0) (sym e) (here c u (subst (λ (z : ℕ). occ z (keep f l) ≡ cond (f z) (occ z l) 0) e h))
     go (apart n t) true u h = simp (u, hit_apart x y n, zero-add) h
     go (apart n t) false u h = simp (u, hit_apart x y n, zero-add) h
 

@@ -12,13 +12,14 @@ use Rattle.types.specs.Numbers.{Shard, Id, Epoch}
 use Rattle.types.specs.declared.Place.{Place}
 use Rattle.types.specs.declared.Place.TheVariants.{Pooled, Seated, Observing, Short, Other}
 use Rattle.types.specs.declared.Answer.{Answer}
-use Rattle.types.specs.declared.Answer.TheVariants.{Done, NotWellFormed, NoRecord, NoBoundary, DrawMissing}
+use Rattle.types.specs.declared.Answer.TheVariants.{Done, NotWellFormed, NoRecord, NoBoundary, DrawMissing, NoRoom}
 use Rattle.rules.specs.Lists.{◌or◌, any, has}
 use Rattle.rules.specs.Table.{at, update}
-use Rattle.rules.specs.Board.{split, merge, Reshape, Board, on_reshapes}
+use Rattle.rules.specs.Board.{split, merge, Reshape, Board, epoch_of, on_reshapes}
 use Rattle.rules.specs.WellFormed.{well_formed}
 use Rattle.rules.specs.Draws.{Drawn, drew, missing, too_large, and_then, draw_index, exchange, shuffle_from, shuffle, draw_from}
-use Rattle.rules.specs.Moves.{pool_of, is_party, with_drain_by, bounds_stand}
+use Rattle.types.specs.Places.{drawn_to}
+use Rattle.rules.specs.Moves.{pool_of, put_on, may_join, is_party, with_drain_by, bounds_stand}
 use Rattle.rules.specs.Turns.{Result, Turn, finished, refused, Fault, ◌gives◌, checked, drawn, alone, in_turn, batch, pool_draw}
 use Rattle.rules.specs.Places as places
 use Rattle.rules.specs.Reshapes as reshapes
@@ -184,7 +185,7 @@ same_reads f g e p draws left n c u =
 
 pool_draw_reads : (s : Shard) (full : Bool) (also : Id → Board → Board) (b : Board) → ReadsTurn (λ ds. pool_draw s full also ds b)
 unfolding pool_draw
-pool_draw_reads s full also b = drawn_reads (draw_from (pool_of b)) _ (from_reads (pool_of b)) (λ o. elim o [
+pool_draw_reads s full also b = drawn_reads (draw_from (pool_of b)) _ (from_reads (pool_of b)) (λ o. elim o as (λ k. ReadsTurn (λ ds. elim k as (λ x. Turn) [ none ↦ finished 0 ds b | some x ↦ checked (not (may_join s (x ∷ []) b) gives NoRoom ∷ full gives NoRoom ∷ []) (finished 1 ds (also x (put_on s (drawn_to s (epoch_of b)) x b))) ])) [
   | none ↦ finished_reads 0 b
   | some x ↦ checked_reads _ _ (finished_reads 1 _)
 ])

@@ -63,7 +63,7 @@ module _ {A : Type 0} where
   table_same m n (d ∷ t) [] r s h = absurd (none-ne-some d.val (sym (h d.key) ∙ head_at d t))
   table_same m n (d ∷ t) (e ∷ u) r s h =
       let k : d.key ≡ e.key = same_key_lem (ordered d.key e.key) in
-      let v : d.val ≡ e.val = some-injective _ _ (sym (head_at d t) ∙ h d.key ∙ rw k (head_at e u)) in
+      let v : d.val ≡ e.val = some-injective _ _ (sym (head_at d t) ∙ h d.key ∙ ap (λ i. at i (e ∷ u)) k ∙ head_at e u) in
       let l : t ≡ u = table_same (suc d.key) (suc e.key) t u r.1 s.1 (λ j. tails k j (alike j d.key)) in
       ap (λ (f : Entry A). f ∷ t) (ap (λ i. entry i d.val) k ∙ ap (entry e.key) v) ∙ ap (λ l. e ∷ l) l
     where

@@ -1,5 +1,6 @@
 // Schedule merges: where all ready keepers together reach quorum, the merge drains, then gets its terminal.
 #![tactic(auto)]
+
 ghost use Rattle.std.specs.Prelude.{◌≡◌, [], true, ◌<◌, ◌≤◌, length, get_or};
 ghost use Rattle.rules.specs.Board.{Board, most_reshapes};
 ghost use Rattle.rules.specs.WellFormed.{well_formed};

@@ -1,5 +1,6 @@
 // Schedule splits: those who stay are shuffled and halved; where each half reaches quorum, the split drains, then gets its terminal.
 #![tactic(auto)]
+
 ghost use Rattle.std.specs.Prelude.{◌≡◌, List, true, ℕ, ◌≤◌, length, drop};
 ghost use Rattle.rules.specs.Board.{Board, split, most_members, most_reshapes};
 ghost use Rattle.rules.specs.WellFormed.{well_formed};

@@ -1,5 +1,6 @@
 // The seat check: whether a board's seats, rotations and reshapes agree with each other.
 #![tactic(auto)]
+
 ghost use Rattle.std.specs.Prelude.{◌≡◌, true, ◌+◌, ◌<◌, length, get_or, drop};
 ghost use Rattle.rules.specs.Table.{keys_of};
 ghost use Rattle.rules.specs.Board.{Board, most_reshapes};

@@ -1,5 +1,6 @@
 // The tables of a board by number, as parts of its words: a count, and rows of one width.
 #![tactic(auto)]
+
 ghost use Rattle.std.specs.Prelude.{◌≡◌, ◌+◌, ◌≤◌, length, get_or};
 ghost use Rattle.board.specs.Layout.{board_size, reshape_width};
 ghost use Rattle.sections.specs.Tables.{widths, members_span, reshape_span, span_of, table_in, row_in, ids_in, count_in};

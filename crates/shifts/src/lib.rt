@@ -1,5 +1,6 @@
 // Words of a lent slice moved up or down, and cleared.
 #![tactic(auto)]
+
 ghost use Rattle.std.specs.Prelude.{◌≡◌, List, ◌++◌, ℕ, ◌+◌, ◌≤◌, length, take, replicate};
 ghost use Rattle.shifts.specs.Moved.{moved_up, moved_down, moved_to};
 

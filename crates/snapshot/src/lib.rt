@@ -1,5 +1,6 @@
 // A board's snapshot: its words without the room past each count, as bytes.
 #![tactic(auto)]
+
 ghost use Rattle.snapshot.specs.Written.{Written};
 
 use types::Answer;

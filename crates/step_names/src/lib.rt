@@ -1,5 +1,6 @@
 // The steps by name.
 #![tactic(auto)]
+
 ghost use Rattle.std.specs.Prelude.{◌≡◌};
 ghost use Rattle.step_names.specs.Names.{underscored as asWritten, same_name};
 ghost use Rattle.step_names.specs.Table.{number_from, numbers_of, takes_draws, is_batch};

@@ -1,5 +1,6 @@
 // What a step tells, and how far it walks a table.
 #![tactic(auto)]
+
 ghost use Rattle.std.specs.Prelude.{◌≡◌, ◌≤◌};
 ghost use Rattle.steps.specs.Inner.{outcome};
 

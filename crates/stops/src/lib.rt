@@ -1,5 +1,6 @@
 // Where the reading of bytes as a snapshot stops.
 #![tactic(auto)]
+
 ghost use Rattle.std.specs.Prelude.{◌≡◌, List, true, ℕ, ◌%◌, ◌<◌, eqb, length, get_or};
 ghost use Rattle.unpacking.specs.AsWords.{AsWords};
 ghost use Rattle.stops.specs.Stop.{section_reading, setting_tests, tests_reading, go_on, ended_at, words_reading, reading_of, place_in};

@@ -1,5 +1,6 @@
 // A committee without those who have a seat in a reshape: one pass over its members.
 #![tactic(auto)]
+
 ghost use Rattle.std.specs.Prelude.{◌≡◌, true, not, ◌<◌, ◌≤◌, length, get_or, set, take};
 ghost use Rattle.rules.specs.Lists.{keep};
 ghost use Rattle.rules.specs.Table.{stands, update};

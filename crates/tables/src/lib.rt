@@ -1,5 +1,6 @@
 // Tables in lent words: a count, rows of any width, and zeros to the end of the room.
 #![tactic(auto)]
+
 ghost use Rattle.std.specs.Prelude.{◌≡◌, List, [], ◌∷◌, ◌++◌, ℕ, ◌+◌, ◌*◌, ◌-◌, ◌<◌, ◌≤◌, not, eqb, length, get_or, take, replicate};
 ghost use Rattle.rules.specs.Lists.{bit_of, has, strike};
 ghost use Rattle.tables.specs.Rows.{table, id_table, insert_at, remove_at, Rising, place_of, row_of, without, Row, words_in, key_in};

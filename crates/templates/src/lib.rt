@@ -1,5 +1,6 @@
 // A text with places for numbers, laid in a line.
 #![tactic(auto)]
+
 ghost use Rattle.std.specs.Prelude.{◌≡◌, ◌+◌, ◌≤◌, length, drop, get_or};
 ghost use Rattle.lines.specs.Says.{Puts};
 ghost use Rattle.templates.specs.Filled.{filled};

@@ -1,5 +1,6 @@
 // Shards, machines, epochs and heights; a machine's place and its moves; what a step answers.
 #![tactic(auto)]
+
 ghost use Rattle.std.specs.Prelude.{◌≡◌, ◌≤◌};
 ghost use Rattle.types.specs.Shards.{left_of, right_of, parent_of, byzantine_threshold, quorum};
 ghost use Rattle.types.specs.Places.{is_pooled, is_seated_on, is_observing, observes, is_ready, is_overdue, pooled, short, drawn_to, set_to_watch, moved_to, kept_on, seated_from_watch, made_ready};

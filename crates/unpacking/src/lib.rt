@@ -1,5 +1,6 @@
 // A snapshot's rows in full width: bytes to the lent words of a board.
 #![tactic(auto)]
+
 ghost use Rattle.std.specs.Prelude.{◌≡◌, List, ◌++◌, true, ℕ, ◌+◌, ◌*◌, ◌/◌, ◌≤◌, length, get_or, drop};
 ghost use Rattle.rules.specs.Board.{Board};
 ghost use Rattle.rules.specs.Snapshot.{snapshot_of};

@@ -1,5 +1,6 @@
 // What a reshape that is not scheduled waits for. Ready seats are counted in drains; reshapes::fields tells whether it drains and is quiet.
 #![tactic(auto)]
+
 ghost use Rattle.std.specs.Prelude.{◌≡◌, true, ◌<◌, ◌≤◌, length, get_or};
 ghost use Rattle.types.specs.Shards as shards;
 ghost use Rattle.types.specs.Places.{is_seated_on};

@@ -1,5 +1,6 @@
 // Whether lent words, of any length and content, hold a well-formed board: one pass, without copies.
 #![tactic(auto)]
+
 ghost use Rattle.std.specs.Prelude.{◌≡◌, false, ◌≤◌, length};
 ghost use Rattle.rules.specs.Board.{most_machines, most_committees, most_bounds};
 ghost use Rattle.board.specs.Layout.{machine_width, committee_width, boundary_width, machines_at, board_size};

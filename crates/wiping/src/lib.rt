@@ -1,5 +1,6 @@
 // Room cleared where it isn't zeros already.
 #![tactic(auto)]
+
 ghost use Rattle.std.specs.Prelude.{◌≡◌, length, replicate};
 
 use shifts::clear;

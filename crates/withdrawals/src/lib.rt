@@ -1,5 +1,6 @@
 // A machine that is short of stake leaves. The step plans, then applies: every refusal comes before the first write.
 #![tactic(auto)]
+
 ghost use Rattle.std.specs.Prelude.{◌≡◌, length};
 ghost use Rattle.rules.specs.Places.{leave};
 ghost use Rattle.board.specs.Layout.{board_size};

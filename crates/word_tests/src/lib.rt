@@ -1,5 +1,6 @@
 // Tests of lent words: in a range, zero, distinct, rising. They are joined by `&` and `|`, which leave no branch.
 #![tactic(auto)]
+
 ghost use Rattle.std.specs.Prelude.{◌≡◌, not, ◌&&◌, ◌||◌, ◌+◌, length};
 ghost use Rattle.rules.specs.Lists.{has, distinct};
 ghost use Rattle.rules.specs.WellFormed.{within};

@@ -167,8 +167,8 @@ pub fn print_small(calls: &[Small]) -> String {
     let mut out = String::from(
         "-- Calls recorded from the original Rust and from the plain reading, made by `oracle/small`; \
          see docs/RECORDED.md.\n\
-         use mathlib.Core.List.{List, [], _∷_}\n\
-         use Rattle·recorded·specs.specs.Call.{Call, call}\n",
+         use mathlib.Core.List.{List, [], ◌∷◌}\n\
+         use Rattle.recorded.specs.Call.{Call, call}\n",
     );
     let lists = calls.chunks(LIST);
     let names: Vec<String> = (1..=lists.len()).map(|n| format!("calls{n}")).collect();

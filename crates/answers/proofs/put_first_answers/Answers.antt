@@ -35,4 +35,4 @@ returns-in-5 c = rw c.in-5.is c.put_text-in-5.ensures
 
 pub returns-in_default : goal.returns-in_default
 unfolding bytes answers answer_text NoneOf
-returns-in_default c = rw (sixth c.args.answer (rest 0 6 c.args.answer (omega arith) c.in_default.rest) c.requires) c.put_text-in_default.ensures
+returns-in_default c = rw (sixth c.args.answer (omega arith) c.requires) c.put_text-in_default.ensures

@@ -30,4 +30,4 @@ returns-in-12 c = rw c.in-12.is c.put_text-in-12.ensures
 
 pub returns-in_default : goal.returns-in_default
 unfolding bytes answers answer_text NoneOf
-returns-in_default c = rw (get_or-eq_default answers _ (rest 7 6 _ c.requires c.in_default.rest)) c.put_text-in_default.ensures
+returns-in_default c = rw (get_or-eq_default answers _ (omega arith)) c.put_text-in_default.ensures

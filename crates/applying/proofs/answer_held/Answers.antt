@@ -62,4 +62,4 @@ returns-in-14 c = step_asked _ 14 _ resolve _ _ _ c.in-14.is refl c.resolve_pend
 
 pub returns-in_default : goal.returns-in_default
 unfolding call_at answer_to
-returns-in_default c = step_asked _ 15 _ time_out _ _ _ (last_step _ c.requires.1 c.requires.2 c.in_default.rest) refl c.auto_ready_timeout_held.ensures
+returns-in_default c = step_asked _ 15 _ time_out _ _ _ (omega arith) refl c.auto_ready_timeout_held.ensures

@@ -11,14 +11,14 @@ unfolding after
 loop-k-init c = (omega arith, omega arith, refl, refl, begun_none _ c.args.at c.args.w)
 
 pub loop-k-preserved : goal.loop-k-preserved
-loop-k-preserved c = let a = c in (
+loop-k-preserved c = (
   omega arith,
   omega arith,
-  simp length-set a.loop-k.invariant.2,
-  ap (λ n. n / 256) a.loop-k.invariant.3 ∙ rw (after_more a.loop-k.k a.args.w),
-  ap (λ (i : ℕ). set a.loop-k.out i (a.loop-k.v % 256)) c.byte_place.ensures
-      ∙ begun_more a.args.out.now a.loop-k.out a.args.at a.args.w a.loop-k.v a.loop-k.k a.loop-k.invariant.4 a.loop-k.invariant.3 (omega arith),
+  simp length-set c.loop-k.invariant.2,
+  ap (λ n. n / 256) c.loop-k.invariant.3 ∙ rw (after_more c.loop-k.k c.args.w),
+  ap (λ (i : ℕ). set c.loop-k.out i (c.loop-k.v % 256)) c.byte_place.ensures
+      ∙ begun_more c.args.out.now c.loop-k.out c.args.at c.args.w c.loop-k.v c.loop-k.k c.loop-k.invariant.4 c.loop-k.invariant.3 (omega arith),
 )
 
 pub returns : goal.returns
-returns c = let a = c in let e : a.loop-k.k ≡ 8 = omega arith in a.loop-k.invariant.4 ∙ rw e (laid_one a.args.w a.args.at a.args.out.now)
+returns c = let e : c.loop-k.k ≡ 8 = omega arith in c.loop-k.invariant.4 ∙ rw e (laid_one c.args.w c.args.at c.args.out.now)

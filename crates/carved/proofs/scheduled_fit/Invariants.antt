@@ -11,7 +11,7 @@ use Rattle.carved.specs.Rows.{split_fits}
 use Rattle.carved.proofs.scheduled_fit.Given as goal
 
 abbrev pub invariant-loop-i : goal.invariant-loop-i
-invariant-loop-i l =     (l.i ≤ l.n) × (l.n ≤ most_reshapes)
+invariant-loop-i l = (l.i ≤ l.n) × (l.n ≤ most_reshapes)
     × ((b : Board) → Holds l.board b → well_formed b ≡ true → (l.n ≡ length b.reshapes) × (scheduled_fit b ≡ every (split_fits b) (drop l.i b.reshapes)))
 
 abbrev pub decreases-loop-i : goal.decreases-loop-i

@@ -9,8 +9,7 @@ loop-k-init c = λ z rs qs o p. refl
 
 pub returns-then-m-l : goal.returns-then-m-l
 returns-then-m-l c = λ z rs qs o p.
-    let l = c in
-    first_ends _ o p l.loop-k.k l.loop-k.l (omega (arith, l.rows_in-n.ensures.1 z rs o)) (omega (arith, l.rows_in-m.ensures.1 z qs p)) ∙ l.loop-k.invariant z rs qs o p
+    first_ends _ o p c.loop-k.k c.loop-k.l (omega (arith, c.rows_in-n.ensures.1 z rs o)) (omega (arith, c.rows_in-m.ensures.1 z qs p)) ∙ c.loop-k.invariant z rs qs o p
 
 pub row_at-row-requires : goal.row_at-row-requires
 row_at-row-requires c = c.rows_in-n.ensures.0 c.loop-k.k (omega arith)
@@ -20,34 +19,28 @@ row_at-other-requires c = c.rows_in-m.ensures.0 c.loop-k.l (omega arith)
 
 pub returns-then-rises : goal.returns-then-rises
 returns-then-rises c = λ z rs qs o p.
-    let l = c in
-    row_gone _ o p l.loop-k.k l.loop-k.l _ _ c.row_at-row.ensures c.row_at-other.ensures (omega (arith, l.rows_in-n.ensures.1 z rs o)) (omega (arith, l.rows_in-m.ensures.1 z qs p))
-    (sym c.rises.ensures ∙ c.if-rises.true) ∙ l.loop-k.invariant z rs qs o p
+    row_gone _ o p c.loop-k.k c.loop-k.l _ _ c.row_at-row.ensures c.row_at-other.ensures (omega (arith, c.rows_in-n.ensures.1 z rs o)) (omega (arith, c.rows_in-m.ensures.1 z qs p))
+    (sym c.rises.ensures ∙ c.if-rises.true) ∙ c.loop-k.invariant z rs qs o p
 
 pub returns-then-rises-2 : goal.returns-then-rises-2
 returns-then-rises-2 c = λ z rs qs o p.
-    let l = c in
-    row_new _ o p l.loop-k.k l.loop-k.l _ _ c.row_at-row.ensures c.row_at-other.ensures (omega (arith, l.rows_in-n.ensures.1 z rs o)) (omega (arith, l.rows_in-m.ensures.1 z qs p))
-    (sym c.rises.ensures ∙ c.if-rises.false) (sym c.rises-in-loop-k.ensures ∙ c.if-rises-2.true) ∙ l.loop-k.invariant z rs qs o p
+    row_new _ o p c.loop-k.k c.loop-k.l _ _ c.row_at-row.ensures c.row_at-other.ensures (omega (arith, c.rows_in-n.ensures.1 z rs o)) (omega (arith, c.rows_in-m.ensures.1 z qs p))
+    (sym c.rises.ensures ∙ c.if-rises.false) (sym c.rises-in-loop-k.ensures ∙ c.if-rises-2.true) ∙ c.loop-k.invariant z rs qs o p
 
 pub returns-then-not-same_words : goal.returns-then-not-same_words
 returns-then-not-same_words c = λ z rs qs o p.
-    let l = c in
-    row_changed _ o p l.loop-k.k l.loop-k.l _ _ c.row_at-row.ensures c.row_at-other.ensures (omega (arith, l.rows_in-n.ensures.1 z rs o)) (omega (arith, l.rows_in-m.ensures.1 z qs p))
-    (sym c.rises.ensures ∙ c.if-rises.false) (sym c.rises-in-loop-k.ensures ∙ c.if-rises-2.false) (sym c.same_words.ensures ∙ not-true _ c.if-not-same_words.true-raw) ∙ l.loop-k.invariant z rs qs o p
+    row_changed _ o p c.loop-k.k c.loop-k.l _ _ c.row_at-row.ensures c.row_at-other.ensures (omega (arith, c.rows_in-n.ensures.1 z rs o)) (omega (arith, c.rows_in-m.ensures.1 z qs p))
+    (sym c.rises.ensures ∙ c.if-rises.false) (sym c.rises-in-loop-k.ensures ∙ c.if-rises-2.false) (sym c.same_words.ensures ∙ not-true _ c.if-not-same_words.true-raw) ∙ c.loop-k.invariant z rs qs o p
 
 pub loop-k-preserved : goal.loop-k-preserved
 loop-k-preserved c = λ z rs qs o p.
-    let l = c in
-    row_same _ o p l.loop-k.k l.loop-k.l _ _ c.row_at-row.ensures c.row_at-other.ensures (omega (arith, l.rows_in-n.ensures.1 z rs o)) (omega (arith, l.rows_in-m.ensures.1 z qs p))
-    (sym c.rises.ensures ∙ c.if-rises.false) (sym c.rises-in-loop-k.ensures ∙ c.if-rises-2.false) (sym c.same_words.ensures ∙ not-false _ c.if-not-same_words.false-raw) ∙ l.loop-k.invariant z rs qs o p
+    row_same _ o p c.loop-k.k c.loop-k.l _ _ c.row_at-row.ensures c.row_at-other.ensures (omega (arith, c.rows_in-n.ensures.1 z rs o)) (omega (arith, c.rows_in-m.ensures.1 z qs p))
+    (sym c.rises.ensures ∙ c.if-rises.false) (sym c.rises-in-loop-k.ensures ∙ c.if-rises-2.false) (sym c.same_words.ensures ∙ not-false _ c.if-not-same_words.false-raw) ∙ c.loop-k.invariant z rs qs o p
 
 pub returns-then-l-m : goal.returns-then-l-m
 returns-then-l-m c = λ z rs qs o p.
-    let l = c in
-    second_ends _ o p l.loop-k.k l.loop-k.l (omega (arith, l.rows_in-n.ensures.1 z rs o)) (omega (arith, l.rows_in-m.ensures.1 z qs p)) ∙ l.loop-k.invariant z rs qs o p
+    second_ends _ o p c.loop-k.k c.loop-k.l (omega (arith, c.rows_in-n.ensures.1 z rs o)) (omega (arith, c.rows_in-m.ensures.1 z qs p)) ∙ c.loop-k.invariant z rs qs o p
 
 pub returns : goal.returns
 returns c = λ z rs qs o p.
-    let l = c in
-    both_end _ o p l.loop-k.k l.loop-k.l (omega (arith, l.rows_in-n.ensures.1 z rs o)) (omega (arith, l.rows_in-m.ensures.1 z qs p)) ∙ l.loop-k.invariant z rs qs o p
+    both_end _ o p c.loop-k.k c.loop-k.l (omega (arith, c.rows_in-n.ensures.1 z rs o)) (omega (arith, c.rows_in-m.ensures.1 z qs p)) ∙ c.loop-k.invariant z rs qs o p

@@ -11,18 +11,15 @@ loop-i-init c = (omega arith, refl)
 
 pub returns-then-s-i : goal.returns-then-s-i
 returns-then-s-i c =
-    let l = c in
     let a = c.args in
-    sym (equal_less a.s.now a.t.now l.loop-i.i (omega arith) (omega arith) c.if-s-i.true) ∙ l.loop-i.invariant.1
+    sym (equal_less a.s.now a.t.now c.loop-i.i (omega arith) (omega arith) c.if-s-i.true) ∙ c.loop-i.invariant.1
 
 pub loop-i-preserved : goal.loop-i-preserved
 loop-i-preserved c =
-    let l = c in
     let a = c.args in
-    (omega arith, sym (equal_more a.s.now a.t.now l.loop-i.i (omega arith) (omega arith) c.if-s-i.false) ∙ l.loop-i.invariant.1)
+    (omega arith, sym (equal_more a.s.now a.t.now c.loop-i.i (omega arith) (omega arith) c.if-s-i.false) ∙ c.loop-i.invariant.1)
 
 pub returns : goal.returns
 returns c =
-    let l = c in
     let a = c.args in
-    sym (equal_done a.s.now a.t.now l.loop-i.i (omega arith) (omega arith)) ∙ l.loop-i.invariant.1
+    sym (equal_done a.s.now a.t.now c.loop-i.i (omega arith) (omega arith)) ∙ c.loop-i.invariant.1

@@ -10,11 +10,10 @@ loop-k-init c = (omega arith, refl, paste-zero c.args.ws.now c.args.to (drop c.a
 
 pub loop-k-preserved : goal.loop-k-preserved
 loop-k-preserved c =
-    let l = c.loop-k in
-    let a = c in (
+    let l = c.loop-k in (
       omega arith,
       simp length-set l.invariant.1,
-      one_copied a.args.ws.now a.args.from a.args.to a.args.n a.requires.0 a.requires.1 a.requires.2 l.k c.loop-k-test.true _ l.invariant.2,
+      one_copied c.args.ws.now c.args.from c.args.to c.args.n c.requires.0 c.requires.1 c.requires.2 l.k c.loop-k-test.true _ l.invariant.2,
     )
 
 pub returns : goal.returns

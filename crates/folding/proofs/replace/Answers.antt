@@ -5,5 +5,4 @@ use Rattle.folding.proofs.replace.Goals as goal
 pub returns : goal.returns
 returns c =
     λ b h l.
-    let a = c in
-    one_replaced b a.args.j l _ _ a.args.k (omega (arith, l, a.requires.1)) (c.free_lower.ensures b h l) _ c.rename.ensures
+    one_replaced b c.args.j l _ _ c.args.k (omega (arith, l, c.requires.1)) (c.free_lower.ensures b h l) _ c.rename.ensures

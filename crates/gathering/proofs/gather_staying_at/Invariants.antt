@@ -10,7 +10,7 @@ use Rattle.gathering.proofs.Gathers.{Filled}
 use Rattle.gathering.proofs.gather_staying_at.Given as goal
 
 abbrev pub invariant-loop-i : goal.invariant-loop-i
-invariant-loop-i l =     (l.i ≤ l.n) × (l.n ≤ most_members) × (l.k ≤ l.i) × (length l.out ≡ most_members)
+invariant-loop-i l = (l.i ≤ l.n) × (l.n ≤ most_members) × (l.k ≤ l.i) × (length l.out ≡ most_members)
     × ((b : Board) → Holds l.board b → well_formed b ≡ true → l.j < length b.committees →
     (l.n ≡ length (get_or b.committees l.j no_committee).val) × Filled Staying l.shard.0 b (get_or b.committees l.j no_committee).val (take l.k l.out) l.i)
 

@@ -9,7 +9,7 @@ use Rattle.halving.proofs.store_half.Given as goal
 
 abbrev pub invariant-loop-k : goal.invariant-loop-k
 invariant-loop-k l = (l.k ≤ length l.half) × (length l.board ≡ length l.initial.board)
-    × ((b : Board) → Holds l.initial.board b → (l : l.i < length b.reshapes) → length (half_of l.left (get_or b.reshapes l.i no_reshape).val) + length l.half ≤ most_half → Holds l.board (With b l.i l l.left (take l.k l.half)))
+    × ((b : Board) → Holds l.initial.board b → (room : l.i < length b.reshapes) → length (half_of l.left (get_or b.reshapes l.i no_reshape).val) + length l.half ≤ most_half → Holds l.board (With b l.i room l.left (take l.k l.half)))
 
 abbrev pub decreases-loop-k : goal.decreases-loop-k
 decreases-loop-k l = length l.half - l.k

@@ -10,7 +10,6 @@ use Rattle.unpacking.specs.AsWords.{AsWords}
 use Rattle.id_lists.proofs.Places.{from}
 use Rattle.id_lists.proofs.distinct_marking.Given as goal
 
-
 -- the ids from i on are distinct, and each has its mark
 pub record Seen (stamp n : ℕ) (bytes : List ℕ) (at : ℕ) (marks : List ℕ) (i : ℕ) : Type 0 where
   pub within : i ≤ n

@@ -9,8 +9,7 @@ loop-at-init c = (omega arith, walk_starts _ _)
 
 pub loop-at-preserved-then-between : goal.loop-at-preserved-then-between
 loop-at-preserved-then-between c =
-    let l = c in
-    (omega arith, walk_skips _ _ l.loop-at.at l.loop-at.n l.loop-at.out l.loop-at.invariant.1 (omega arith) (sym c.between.ensures ∙ c.if-between.true))
+    (omega arith, walk_skips _ _ c.loop-at.at c.loop-at.n c.loop-at.out c.loop-at.invariant.1 (omega arith) (sym c.between.ensures ∙ c.if-between.true))
 
 pub slice_bounds-parse-start : goal.slice_bounds-parse-start
 slice_bounds-parse-start c = omega (arith, c.piece_end-e.ensures.1)
@@ -23,38 +22,34 @@ shape_of-out-in_default c = c.loop-at.invariant.1.room
 
 pub returns-in_default : goal.returns-in_default
 returns-in_default c =
-    let l = c in
     let b = sym c.between.ensures ∙ c.if-between.false in
     let d = numeral_none _ (sym c.parse.ensures ∙ c.in_default.is) in
-    walk_stops _ _ l.loop-at.at l.loop-at.n l.loop-at.out l.loop-at.invariant.1 c.piece_end-e.result (omega arith) b c.piece_end-e.ensures.1 d
+    walk_stops _ _ c.loop-at.at c.loop-at.n c.loop-at.out c.loop-at.invariant.1 c.piece_end-e.result (omega arith) b c.piece_end-e.ensures.1 d
 
 pub shape_of-out-then-out-n : goal.shape_of-out-then-out-n
 shape_of-out-then-out-n c = c.loop-at.invariant.1.room
 
 pub returns-then-out-n : goal.returns-then-out-n
 returns-then-out-n c =
-    let l = c in
     let b = sym c.between.ensures ∙ c.if-between.false in
     let d = numeral_some _ _ (sym c.parse.ensures ∙ c.in-Number.is) in
-    walk_full _ _ l.loop-at.at l.loop-at.n l.loop-at.out l.loop-at.invariant.1 c.piece_end-e.result (omega arith) b c.piece_end-e.ensures.1 _ d (omega arith)
+    walk_full _ _ c.loop-at.at c.loop-at.n c.loop-at.out c.loop-at.invariant.1 c.piece_end-e.result (omega arith) b c.piece_end-e.ensures.1 _ d (omega arith)
 
 pub loop-at-smaller : goal.loop-at-smaller
 loop-at-smaller c =
-    let l = c in
     let b = sym c.between.ensures ∙ c.if-between.false in
-    omega (arith, c.piece_end-e.ensures.1, run_goes_on l.args.text.now l.loop-at.at (omega arith) b)
+    omega (arith, c.piece_end-e.ensures.1, run_goes_on c.args.text.now c.loop-at.at (omega arith) b)
 
 pub loop-at-preserved : goal.loop-at-preserved
 loop-at-preserved c =
-    let l = c in
     let b = sym c.between.ensures ∙ c.if-between.false in
     let d = numeral_some _ _ (sym c.parse.ensures ∙ c.in-Number.is) in (
       c.piece_end-e.ensures.0,
-      walk_takes _ _ l.loop-at.at l.loop-at.n l.loop-at.out l.loop-at.invariant.1 c.piece_end-e.result (omega arith) b c.piece_end-e.ensures.1 _ d (omega arith),
+      walk_takes _ _ c.loop-at.at c.loop-at.n c.loop-at.out c.loop-at.invariant.1 c.piece_end-e.result (omega arith) b c.piece_end-e.ensures.1 _ d (omega arith),
     )
 
 pub shape_of-out : goal.shape_of-out
 shape_of-out c = c.loop-at.invariant.1.room
 
 pub returns : goal.returns
-returns c = let l = c in walk_ends _ _ l.loop-at.at l.loop-at.n l.loop-at.out l.loop-at.invariant.1 (omega arith)
+returns c = walk_ends _ _ c.loop-at.at c.loop-at.n c.loop-at.out c.loop-at.invariant.1 (omega arith)

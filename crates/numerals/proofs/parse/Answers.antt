@@ -14,17 +14,15 @@ loop-i-init c = (omega arith, parse_starts c.args.text.now (omega arith), omega 
 pub returns-in_default : goal.returns-in_default
 unfolding numeral_of
 returns-in_default c =
-    let l = c in
     let r = sym c.with_digit.ensures ∙ c.in_default.is in
-    rw (parse_stops l.args.text.now l.loop-i.v l.loop-i.i l.loop-i.invariant.1 (omega arith) r)
+    rw (parse_stops c.args.text.now c.loop-i.v c.loop-i.i c.loop-i.invariant.1 (omega arith) r)
 
 pub loop-i-preserved : goal.loop-i-preserved
 loop-i-preserved c =
-    let l = c in
     let r = sym c.with_digit.ensures ∙ c.in-Number.is in
-    let m = parse_goes_on l.args.text.now l.loop-i.v l.loop-i.i l.loop-i.invariant.1 _ (omega arith) r in
+    let m = parse_goes_on c.args.text.now c.loop-i.v c.loop-i.i c.loop-i.invariant.1 _ (omega arith) r in
     (omega arith, m.0, m.1)
 
 pub returns : goal.returns
 unfolding numeral_of
-returns c = let l = c in rw (parse_ends l.args.text.now l.loop-i.v l.loop-i.i l.loop-i.invariant.1 (omega arith) l.loop-i.invariant.2)
+returns c = rw (parse_ends c.args.text.now c.loop-i.v c.loop-i.i c.loop-i.invariant.1 (omega arith) c.loop-i.invariant.2)

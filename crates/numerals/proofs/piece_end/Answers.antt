@@ -8,18 +8,15 @@ loop-e-init c = (omega arith, refl)
 
 pub returns-then-between : goal.returns-then-between
 returns-then-between c =
-    let l = c in
-    let z = run_stops l.args.text.now l.loop-e.e (omega arith) (sym c.between.ensures ∙ c.if-between.true) in
-    (omega arith, omega (arith, l.loop-e.invariant.1))
+    let z = run_stops c.args.text.now c.loop-e.e (omega arith) (sym c.between.ensures ∙ c.if-between.true) in
+    (omega arith, omega (arith, c.loop-e.invariant.1))
 
 pub loop-e-preserved : goal.loop-e-preserved
 loop-e-preserved c =
-    let l = c in
-    let z = run_goes_on l.args.text.now l.loop-e.e (omega arith) (sym c.between.ensures ∙ c.if-between.false) in
-    (omega arith, omega (arith, l.loop-e.invariant.1))
+    let z = run_goes_on c.args.text.now c.loop-e.e (omega arith) (sym c.between.ensures ∙ c.if-between.false) in
+    (omega arith, omega (arith, c.loop-e.invariant.1))
 
 pub returns : goal.returns
 returns c =
-    let l = c in
-    let z = run_ends l.args.text.now l.loop-e.e (omega arith) in
-    (omega arith, omega (arith, l.loop-e.invariant.1))
+    let z = run_ends c.args.text.now c.loop-e.e (omega arith) in
+    (omega arith, omega (arith, c.loop-e.invariant.1))

@@ -13,7 +13,7 @@ use Rattle.occupancy.specs.Rows.{cohort_watches}
 use Rattle.occupancy.proofs.cohort_watches.Given as goal
 
 abbrev pub invariant-loop-k : goal.invariant-loop-k
-invariant-loop-k l =     (l.k ≤ l.n) × (l.n ≤ most_seats)
+invariant-loop-k l = (l.k ≤ l.n) × (l.n ≤ most_seats)
     × ((b : Board) → Holds l.board b → well_formed b ≡ true → l.i < length b.reshapes
     → (l.n ≡ length (get_or b.reshapes l.i no_reshape).val.seats)
     × (cohort_watches b (get_or b.reshapes l.i no_reshape)

@@ -11,7 +11,7 @@ use Rattle.occupancy.specs.Rows.{is_here, committee_is_there}
 use Rattle.occupancy.proofs.committee_is_there.Given as goal
 
 abbrev pub invariant-loop-k : goal.invariant-loop-k
-invariant-loop-k l =     (l.k ≤ l.n) × (l.n ≤ most_members)
+invariant-loop-k l = (l.k ≤ l.n) × (l.n ≤ most_members)
     × ((b : Board) → Holds l.board b → well_formed b ≡ true → l.j < length b.committees
     → (l.n ≡ length (get_or b.committees l.j no_committee).val)
     × (committee_is_there b (get_or b.committees l.j no_committee)

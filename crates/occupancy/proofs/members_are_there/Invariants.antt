@@ -11,7 +11,7 @@ use Rattle.occupancy.specs.Rows.{committee_is_there}
 use Rattle.occupancy.proofs.members_are_there.Given as goal
 
 abbrev pub invariant-loop-j : goal.invariant-loop-j
-invariant-loop-j l =     (l.j ≤ l.n) × (l.n ≤ most_committees)
+invariant-loop-j l = (l.j ≤ l.n) × (l.n ≤ most_committees)
     × ((b : Board) → Holds l.board b → well_formed b ≡ true → (l.n ≡ length b.committees) × (members_are_there b ≡ every (committee_is_there b) (drop l.j b.committees)))
 
 abbrev pub decreases-loop-j : goal.decreases-loop-j

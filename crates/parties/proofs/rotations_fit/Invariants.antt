@@ -10,7 +10,7 @@ use Rattle.parties.proofs.Pairs.{pairwise}
 use Rattle.parties.proofs.rotations_fit.Given as goal
 
 abbrev pub invariant-loop-i : goal.invariant-loop-i
-invariant-loop-i l =     (l.i ≤ l.n) × (l.n ≤ most_rotations)
+invariant-loop-i l = (l.i ≤ l.n) × (l.n ≤ most_rotations)
     × ((b : Board) → Holds l.board b → well_formed b ≡ true → (l.n ≡ length b.rotations) × (rotations_fit b ≡ pairwise b (drop l.i b.rotations)))
 
 abbrev pub decreases-loop-i : goal.decreases-loop-i

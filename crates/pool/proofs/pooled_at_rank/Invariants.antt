@@ -9,7 +9,7 @@ use Rattle.pool.proofs.Pools.{Ranked}
 use Rattle.pool.proofs.pooled_at_rank.Given as goal
 
 abbrev pub invariant-loop-i : goal.invariant-loop-i
-invariant-loop-i l =     (l.i ≤ l.n) × (l.n ≤ most_machines)
+invariant-loop-i l = (l.i ≤ l.n) × (l.n ≤ most_machines)
     × ((b : Board) → Holds l.ws b → l.k < length (pool_of b) → (l.n ≡ length b.machines) × Ranked is_pooled b.machines l.i l.left (get_or (pool_of b) l.k 0))
 
 abbrev pub decreases-loop-i : goal.decreases-loop-i

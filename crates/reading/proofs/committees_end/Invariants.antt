@@ -9,7 +9,6 @@ use Rattle.unpacking.specs.AsWords.{AsWords}
 use Rattle.reading.proofs.Streams.{Left}
 use Rattle.reading.proofs.committees_end.Given as goal
 
-
 -- the marks keep their length
 pub record Held (bytes marks : List ℕ) (at n a : ℕ) : Type 0 where
   pub long : length marks ≡ mark_count

@@ -1,3 +1,4 @@
+use mathlib.Core.List.{[]}
 use Rattle.rules.proofs.KeptBoard.{good_of_lem}
 use native.Mathlib.Omega.{arith}
 use Rattle.board.proofs.Keyed.{committees_rise}

@@ -8,7 +8,7 @@ use Rattle.board.specs.Held.{Holds}
 use Rattle.seats.proofs.families_apart.Given as goal
 
 abbrev pub invariant-loop-i : goal.invariant-loop-i
-invariant-loop-i l =     (l.i ≤ l.n) × (l.n ≤ most_reshapes)
+invariant-loop-i l = (l.i ≤ l.n) × (l.n ≤ most_reshapes)
     × ((b : Board) → Holds l.board b → (l.n ≡ length b.reshapes) × (families_apart (keys_of b.reshapes) ≡ families_apart (keys_of (drop l.i b.reshapes))))
 
 abbrev pub decreases-loop-i : goal.decreases-loop-i

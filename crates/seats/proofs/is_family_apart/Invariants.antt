@@ -11,7 +11,7 @@ use Rattle.seats.specs.Rows.{is_family_apart}
 use Rattle.seats.proofs.is_family_apart.Given as goal
 
 abbrev pub invariant-loop-k : goal.invariant-loop-k
-invariant-loop-k l =     (l.n ≤ most_reshapes)
+invariant-loop-k l = (l.n ≤ most_reshapes)
     × ((b : Board) → Holds l.board b → l.i < length b.reshapes
     → (l.n ≡ length b.reshapes)
     × (is_family_apart (get_or b.reshapes l.i no_reshape) (drop (l.i + 1) b.reshapes) ≡ every (λ u. not (overlaps (get_or b.reshapes l.i no_reshape).key u)) (keys_of (drop l.k b.reshapes))))

@@ -7,4 +7,4 @@ use Rattle.sections.proofs.row_width.Goals as goal
 
 pub returns-in_default : goal.returns-in_default
 unfolding NoneOf
-returns-in_default c = sym (get_or-eq_default widths 1 (rest 0 7 _ (omega arith) c.in_default.rest))
+returns-in_default c = sym (get_or-eq_default widths 1 (omega arith))

@@ -47,4 +47,4 @@ returns-in-9 c = let e : c.args.which ≡ 9 = omega arith in (rw e, omega arith)
 
 pub returns-in_default : goal.returns-in_default
 unfolding span_of spans NoneOf
-returns-in_default c = (sym (get_or-eq_default (spans c.args.j) (span 0 0) (rest 0 10 _ (omega arith) c.in_default.rest)), omega arith)
+returns-in_default c = (sym (get_or-eq_default (spans c.args.j) (span 0 0) (omega arith)), omega arith)

@@ -10,15 +10,13 @@ pub loop-i-init : goal.loop-i-init
 loop-i-init c = (omega arith, refl, refl)
 
 pub loop-i-preserved : goal.loop-i-preserved
-loop-i-preserved c =
-    let a = c in (
-      omega arith,
-      simp length-set a.loop-i.invariant.1,
-      ap (λ (l : List ℕ). set l a.loop-i.i 0) a.loop-i.invariant.2 ∙ fill_more a.loop-i.i 0 a.args.t.now (omega arith),
-    )
+loop-i-preserved c = (
+  omega arith,
+  simp length-set c.loop-i.invariant.1,
+  ap (λ (l : List ℕ). set l c.loop-i.i 0) c.loop-i.invariant.2 ∙ fill_more c.loop-i.i 0 c.args.t.now (omega arith),
+)
 
 pub returns : goal.returns
 returns c =
-    let a = c in
-    let n : a.loop-i.i ≡ length a.args.t.now = omega arith in
-    a.loop-i.invariant.2 ∙ rw (n, drop_of_length-le a.args.t.now {i = length a.args.t.now} (omega arith)) (append-nil _)
+    let n : c.loop-i.i ≡ length c.args.t.now = omega arith in
+    c.loop-i.invariant.2 ∙ rw (n, drop_of_length-le c.args.t.now {i = length c.args.t.now} (omega arith)) (append-nil _)

@@ -2,4 +2,4 @@ use Rattle.shifts.proofs.Parts.{gets_take}
 use Rattle.shifts.proofs.eight.Goals as goal
 
 pub returns : goal.returns
-returns c = let a = c in gets_take 8 a.args.t.now a.requires
+returns c = gets_take 8 c.args.t.now c.requires

@@ -4,5 +4,4 @@ use Rattle.shifts.proofs.move_eight.Goals as goal
 
 pub returns : goal.returns
 returns c =
-    let a = c in
-    moved_part a.args.t.now _ _ a.args.from a.args.to (omega (arith, a.requires.0)) c.eight-words.ensures c.put_eight.ensures
+    moved_part c.args.t.now _ _ c.args.from c.args.to (omega (arith, c.requires.0)) c.eight-words.ensures c.put_eight.ensures

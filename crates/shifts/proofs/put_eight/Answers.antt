@@ -6,5 +6,5 @@ use Rattle.shifts.proofs.put_eight.Goals as goal
 
 pub returns : goal.returns
 returns c =
-    let n : length c.args.t2 ≡ 8 = search rules in
-    filled c.args.t.now (gets 0 8 c.args.t2) c.requires ∙ sym (gets_all 8 c.args.t2 n)
+    let n : length c.args.words ≡ 8 = search rules in
+    filled c.args.t.now (gets 0 8 c.args.words) c.requires ∙ sym (gets_all 8 c.args.words n)

@@ -10,8 +10,7 @@ use Rattle.shifts.proofs.shift_down.Goals as goal
 pub loop-k-init : goal.loop-k-init
 loop-k-init c =
     let s = c.shift_down_eights-k in
-    let a = c in
-    (omega arith, s.ensures.1, omega (arith, s.ensures.0, a.requires.0), omega (arith, s.auto.0, a.requires.2), refl, down_none _ s.result a.args.by)
+    (omega arith, s.ensures.1, omega (arith, s.ensures.0, c.requires.0), omega (arith, s.auto.t, c.requires.2), refl, down_none _ s.result c.args.by)
 
 pub loop-k-preserved : goal.loop-k-preserved
 loop-k-preserved c =
@@ -29,9 +28,8 @@ pub returns : goal.returns
 returns c =
     let l = c.loop-k in
     let s = c.shift_down_eights-k in
-    let a = c in
-    let e : l.k ≡ a.args.to = omega (arith, l.invariant.1) in
+    let e : l.k ≡ c.args.to = omega (arith, l.invariant.1) in
     l.invariant.5
-    ∙ ap (λ (x : ℕ). moved_down s.new.0 s.result x a.args.by) e
-    ∙ ap (λ (x : List ℕ). moved_down x s.result a.args.to a.args.by) s.ensures.2
-    ∙ down_joins a.args.t.now a.args.from s.result a.args.to a.args.by a.requires.0 s.ensures.0 s.ensures.1 a.requires.2
+    ∙ ap (λ (x : ℕ). moved_down s.new.t s.result x c.args.by) e
+    ∙ ap (λ (x : List ℕ). moved_down x s.result c.args.to c.args.by) s.ensures.2
+    ∙ down_joins c.args.t.now c.args.from s.result c.args.to c.args.by c.requires.0 s.ensures.0 s.ensures.1 c.requires.2

@@ -7,7 +7,7 @@ use Rattle.shifts.proofs.Words.{down_none, down_many}
 use Rattle.shifts.proofs.shift_down_eights.Goals as goal
 
 pub loop-k-init : goal.loop-k-init
-loop-k-init c = let a = c in (omega arith, omega (arith, a.requires.1), a.requires.0, a.requires.2, refl, down_none _ a.args.from a.args.by)
+loop-k-init c = (omega arith, omega (arith, c.requires.1), c.requires.0, c.requires.2, refl, down_none _ c.args.from c.args.by)
 
 pub loop-k-preserved : goal.loop-k-preserved
 loop-k-preserved c =
@@ -18,7 +18,7 @@ loop-k-preserved c =
       omega arith,
       l.invariant.2,
       l.invariant.3,
-      m.auto.0 ∙ l.invariant.4,
+      m.auto.t ∙ l.invariant.4,
       m.ensures ∙ ap (λ (u : List ℕ). moved_to u l.k (l.k - a.by) 8) l.invariant.5 ∙ down_many a.t.now a.from l.k a.by 8 l.invariant.2 l.invariant.0 (omega (arith, l.invariant.3)),
     )
 

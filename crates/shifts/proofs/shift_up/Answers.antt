@@ -10,8 +10,7 @@ use Rattle.shifts.proofs.shift_up.Goals as goal
 pub loop-k-init : goal.loop-k-init
 loop-k-init c =
     let s = c.shift_up_eights-k in
-    let a = c in
-    (s.ensures.0, omega arith, omega (arith, s.ensures.1, s.auto.0, a.requires.1), refl, up_none _ s.result a.args.by)
+    (s.ensures.0, omega arith, omega (arith, s.ensures.1, s.auto.t, c.requires.1), refl, up_none _ s.result c.args.by)
 
 pub loop-k-preserved : goal.loop-k-preserved
 loop-k-preserved c =
@@ -28,9 +27,8 @@ pub returns : goal.returns
 returns c =
     let l = c.loop-k in
     let s = c.shift_up_eights-k in
-    let a = c in
-    let e : l.k ≡ a.args.from = omega (arith, l.invariant.0) in
+    let e : l.k ≡ c.args.from = omega (arith, l.invariant.0) in
     l.invariant.4
-    ∙ ap (λ (x : ℕ). moved_up s.new.0 x s.result a.args.by) e
-    ∙ ap (λ (x : List ℕ). moved_up x a.args.from s.result a.args.by) s.ensures.2
-    ∙ up_joins a.args.t.now a.args.from s.result a.args.to a.args.by s.ensures.0 s.ensures.1 a.requires.1
+    ∙ ap (λ (x : ℕ). moved_up s.new.t x s.result c.args.by) e
+    ∙ ap (λ (x : List ℕ). moved_up x c.args.from s.result c.args.by) s.ensures.2
+    ∙ up_joins c.args.t.now c.args.from s.result c.args.to c.args.by s.ensures.0 s.ensures.1 c.requires.1

@@ -7,7 +7,7 @@ use Rattle.shifts.proofs.Words.{up_none, up_many}
 use Rattle.shifts.proofs.shift_up_eights.Goals as goal
 
 pub loop-k-init : goal.loop-k-init
-loop-k-init c = let a = c in (omega (arith, a.requires.0), omega arith, a.requires.1, refl, up_none _ a.args.to a.args.by)
+loop-k-init c = (omega (arith, c.requires.0), omega arith, c.requires.1, refl, up_none _ c.args.to c.args.by)
 
 pub loop-k-preserved : goal.loop-k-preserved
 loop-k-preserved c =
@@ -17,7 +17,7 @@ loop-k-preserved c =
       omega arith,
       omega (arith, l.invariant.1),
       l.invariant.2,
-      m.auto.0 ∙ l.invariant.3,
+      m.auto.t ∙ l.invariant.3,
       m.ensures ∙ ap (λ (u : List ℕ). moved_to u (l.k - 8) (l.k - 8 + a.by) 8) l.invariant.4 ∙ up_many a.t.now l.k a.to a.by 8 (omega arith) l.invariant.1 l.invariant.2,
     )
 

@@ -5,7 +5,7 @@ use Rattle.shifts.specs.Moved.{moved_up}
 use Rattle.shifts.proofs.shift_up_eights.Given as goal
 
 abbrev pub invariant-loop-k : goal.invariant-loop-k
-invariant-loop-k l =     (l.from ≤ l.k) × (l.k ≤ l.to) × (l.to + l.by ≤ length l.initial.t) × (length l.t ≡ length l.initial.t) × (l.t ≡ moved_up l.initial.t l.k l.to l.by)
+invariant-loop-k l = (l.from ≤ l.k) × (l.k ≤ l.to) × (l.to + l.by ≤ length l.initial.t) × (length l.t ≡ length l.initial.t) × (l.t ≡ moved_up l.initial.t l.k l.to l.by)
 
 abbrev pub decreases-loop-k : goal.decreases-loop-k
 decreases-loop-k l = l.k - l.from

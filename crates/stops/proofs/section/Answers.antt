@@ -27,18 +27,16 @@ row_end-e-requires c = (c.requires, row_lent c.args.k _ _ c.width-w.ensures c.lo
 
 pub returns-then-e-eq0 : goal.returns-then-e-eq0
 returns-then-e-eq0 c = λ ws h.
-    let l = c in
     let r = row_end_is _ _ ws _ _ (c.row_end-e.ensures ws h) in
-    sym (rows_stop _ ws l.loop-n.n l.loop-n.a _ (omega arith) r c.if-e-eq0.true) ∙ l.loop-n.invariant.1 ws h
+    sym (rows_stop _ ws c.loop-n.n c.loop-n.a _ (omega arith) r c.if-e-eq0.true) ∙ c.loop-n.invariant.1 ws h
 
 pub loop-n-preserved : goal.loop-n-preserved
-loop-n-preserved c =
-    let l = c in (
-      (let g = c.row-in-loop-n-1.given in rw length_front l.loop-n.invariant.0),
-      λ ws h.
-          let r = row_end_is _ _ ws _ _ (c.row_end-e.ensures ws h) in
-          sym (rows_go_on _ ws l.loop-n.n l.loop-n.a _ (omega arith) r c.if-e-eq0.false) ∙ l.loop-n.invariant.1 ws h,
-    )
+loop-n-preserved c = (
+  (let g = c.row-in-loop-n-1.given in rw length_front c.loop-n.invariant.0),
+  λ ws h.
+      let r = row_end_is _ _ ws _ _ (c.row_end-e.ensures ws h) in
+      sym (rows_go_on _ ws c.loop-n.n c.loop-n.a _ (omega arith) r c.if-e-eq0.false) ∙ c.loop-n.invariant.1 ws h,
+)
 
 pub returns : goal.returns
-returns c = λ ws h. let l = c in rows_end _ ws l.loop-n.n l.loop-n.a (omega arith) ∙ l.loop-n.invariant.1 ws h
+returns c = λ ws h. rows_end _ ws c.loop-n.n c.loop-n.a (omega arith) ∙ c.loop-n.invariant.1 ws h

@@ -13,23 +13,20 @@ loop-i-init c = (omega arith, λ ws h. refl)
 
 pub returns-then-bytes-i : goal.returns-then-bytes-i
 returns-then-bytes-i c = λ ws h.
-    let l = c in
-    sym (test_missing setting_tests l.loop-i.i ws (omega (arith, seven_tests)) (omega (arith, total h))) ∙ l.loop-i.invariant.1 ws h
+    sym (test_missing setting_tests c.loop-i.i ws (omega (arith, seven_tests)) (omega (arith, total h))) ∙ c.loop-i.invariant.1 ws h
 
 pub returns-then-not-setting_ok : goal.returns-then-not-setting_ok
 returns-then-not-setting_ok c = λ ws h.
-    let l = c in
-    let e = ap (get_or setting_tests l.loop-i.i (λ _. true)) (sym (c.word.ensures ws h)) ∙ sym c.setting_ok.ensures ∙ not-true _ c.if-not-setting_ok.true-raw in
-    sym (test_fails setting_tests l.loop-i.i ws (omega (arith, seven_tests)) (omega (arith, total h)) e) ∙ l.loop-i.invariant.1 ws h
+    let e = ap (get_or setting_tests c.loop-i.i (λ _. true)) (sym (c.word.ensures ws h)) ∙ sym c.setting_ok.ensures ∙ not-true _ c.if-not-setting_ok.true-raw in
+    sym (test_fails setting_tests c.loop-i.i ws (omega (arith, seven_tests)) (omega (arith, total h)) e) ∙ c.loop-i.invariant.1 ws h
 
 pub loop-i-preserved : goal.loop-i-preserved
-loop-i-preserved c =
-    let l = c in (
-      omega arith,
-      λ ws h.
-          let e = ap (get_or setting_tests l.loop-i.i (λ _. true)) (sym (c.word.ensures ws h)) ∙ sym c.setting_ok.ensures ∙ not-false _ c.if-not-setting_ok.false-raw in
-          sym (test_passes setting_tests l.loop-i.i ws (omega (arith, seven_tests)) (omega (arith, total h)) e) ∙ l.loop-i.invariant.1 ws h,
-    )
+loop-i-preserved c = (
+  omega arith,
+  λ ws h.
+      let e = ap (get_or setting_tests c.loop-i.i (λ _. true)) (sym (c.word.ensures ws h)) ∙ sym c.setting_ok.ensures ∙ not-false _ c.if-not-setting_ok.false-raw in
+      sym (test_passes setting_tests c.loop-i.i ws (omega (arith, seven_tests)) (omega (arith, total h)) e) ∙ c.loop-i.invariant.1 ws h,
+)
 
 pub returns : goal.returns
-returns c = λ ws h. let l = c in sym (tests_done setting_tests l.loop-i.i ws (omega (arith, seven_tests))) ∙ l.loop-i.invariant.1 ws h
+returns c = λ ws h. sym (tests_done setting_tests c.loop-i.i ws (omega (arith, seven_tests))) ∙ c.loop-i.invariant.1 ws h

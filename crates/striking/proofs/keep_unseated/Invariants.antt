@@ -9,7 +9,6 @@ use Rattle.board.specs.Held.{Holds, no_committee, no_reshape}
 use Rattle.striking.proofs.Sifting.{Halfway}
 use Rattle.striking.proofs.keep_unseated.Given as goal
 
-
 abbrev pub unseated : ℕ → Board → ℕ → Bool
 unseated i b x = not (stands x (get_or b.reshapes i no_reshape).val.seats)
 

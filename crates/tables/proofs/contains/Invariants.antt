@@ -7,7 +7,7 @@ use Rattle.tables.specs.Rows.{id_table}
 use Rattle.tables.proofs.contains.Given as goal
 
 abbrev pub invariant-loop-i : goal.invariant-loop-i
-invariant-loop-i l = (l.i ≤ l.n) × (l.n ≤ l.cap) × ((l : List ℕ) → l.t ≡ id_table l.cap l → length l ≤ l.cap → (l.n ≡ length l) × (l.found ≡ has l.x (take l.i l)))
+invariant-loop-i l = (l.i ≤ l.n) × (l.n ≤ l.cap) × ((ids : List ℕ) → l.t ≡ id_table l.cap ids → length ids ≤ l.cap → (l.n ≡ length ids) × (l.found ≡ has l.x (take l.i ids)))
 
 abbrev pub decreases-loop-i : goal.decreases-loop-i
 decreases-loop-i l = l.n - l.i

@@ -33,7 +33,7 @@ loop-i-preserved c =
       omega (arith, k.ensures.0),
       omega arith,
       l.invariant.2,
-      k.auto.0 ∙ l.invariant.3,
+      k.auto.t ∙ l.invariant.3,
       λ rs e m.
           let s = l.invariant.4 rs e m in
           (s.0, tried_more a.cap a.x rs _ l.i l.k s.1 (omega (arith, s.0, c.loop-i-test.true)) _ _ (omega arith) k.ensures.1 k.ensures.2),

@@ -8,7 +8,7 @@ use Rattle.tables.proofs.row_among_few.Given as goal
 
 -- the first row of the key is the first from i on
 abbrev pub invariant-loop-i : goal.invariant-loop-i
-invariant-loop-i l =     (rs : List (Row l.w)) → l.t ≡ table words_in l.w l.cap rs → length rs ≤ l.cap
+invariant-loop-i l = (rs : List (Row l.w)) → l.t ≡ table words_in l.w l.cap rs → length rs ≤ l.cap
     → (l.n ≡ length rs) × (l.i + first_where (λ x. eqb (key_in x) l.k) (drop l.i rs) ≡ first_where (λ x. eqb (key_in x) l.k) rs)
 
 abbrev pub decreases-loop-i : goal.decreases-loop-i

@@ -8,7 +8,7 @@ use Rattle.tables.proofs.row_of.Given as goal
 
 -- a row of the key is one of the n from lo on
 abbrev pub invariant-loop-n : goal.invariant-loop-n
-invariant-loop-n l =     (l.lo + l.n ≤ l.cap)
+invariant-loop-n l = (l.lo + l.n ≤ l.cap)
     × ((rs : List (Row l.w)) → l.t ≡ table words_in l.w l.cap rs → length rs ≤ l.cap → Rising key_in rs
     → (l.lo + l.n ≤ length rs) × ((i : ℕ) → i < length rs → key_in (get_or rs i (no_row l.w)) ≡ l.k → (l.lo ≤ i) × (i < l.lo + l.n)))
 

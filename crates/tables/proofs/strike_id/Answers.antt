@@ -1,7 +1,6 @@
 use Prim.Native.Nat.{◌+◌}
 use mathlib.Core.Path.{◌≡◌, refl, ◌∙◌}
 use mathlib.Core.Bool.{not}
-use mathlib.Core.Logic.{⊎_elim}
 use native.Mathlib.Omega.{arith}
 use lib.Dec.{eqb}
 use lib.ListN.{get_or, length-set}
@@ -10,6 +9,7 @@ use Rattle.rules.proofs.Counts.{eqb_apart}
 use Rattle.rules.proofs.Tests.{of_eq}
 use Rattle.tables.proofs.Ids.{id_count}
 use Rattle.tables.proofs.Sifted.{striking_none, striking_more, striking_all}
+use Rattle.tables.proofs.strike_id.Goals.{then-y-x, else-y-x}
 use Rattle.tables.proofs.strike_id.Goals as goal
 
 pub loop-i-init : goal.loop-i-init
@@ -31,8 +31,11 @@ loop-i-preserved c =
     let a = c.args in
     let y = get_or s.t (1 + s.i) 0 in
     let counted : c.if-y-x.k ≡ s.k + bit_of (not (eqb y a.x)) =
-    ⊎_elim (λ w. rw (eqb_apart y a.x w.0.taken) w.1) (λ w. rw (of_eq y a.x w.0.left) (w.1 ∙ omega arith)) c.if-y-x.branch in (
-      ⊎_elim (λ w. omega arith) (λ w. omega arith) c.if-y-x.branch,
+    elim c.if-y-x.branch [
+      | then-y-x w ↦ rw (eqb_apart y a.x w.if-y-x.true) w.k-is
+      | else-y-x w ↦ rw (of_eq y a.x w.if-y-x.false) (w.k-is ∙ omega arith)
+    ] in (
+      elim c.if-y-x.branch [ then-y-x w ↦ omega (arith, w.k-is) | else-y-x w ↦ omega (arith, w.k-is) ],
       omega arith,
       s.invariant.2,
       simp length-set s.invariant.3,
@@ -42,7 +45,7 @@ loop-i-preserved c =
     )
 
 pub shape_of-t : goal.shape_of-t
-shape_of-t c = c.cut.auto.0 ∙ c.loop-i.invariant.3
+shape_of-t c = c.cut.auto.t ∙ c.loop-i.invariant.3
 
 pub returns : goal.returns
 returns c = λ l e h.

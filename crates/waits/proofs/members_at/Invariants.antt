@@ -12,7 +12,7 @@ use Rattle.waits.specs.Counts.{is_ready_on}
 use Rattle.waits.proofs.members_at.Given as goal
 
 abbrev pub invariant-loop-k : goal.invariant-loop-k
-invariant-loop-k l =     (l.k ≤ l.n) × (l.n ≤ most_members) × (l.seated ≤ l.k) × (l.ready ≤ l.k)
+invariant-loop-k l = (l.k ≤ l.n) × (l.n ≤ most_members) × (l.seated ≤ l.k) × (l.ready ≤ l.k)
     × ((b : Board) → Holds l.board b → well_formed b ≡ true → l.j < length b.committees
     → (l.n ≡ length (get_or b.committees l.j no_committee).val)
     × (l.seated + count (says (is_seated_on l.shard.0) b) (drop l.k (get_or b.committees l.j no_committee).val) ≡ count (says (is_seated_on l.shard.0) b) (get_or b.committees l.j no_committee).val)

@@ -10,7 +10,6 @@ use Rattle.row_tests.specs.declared.RowKind.TheVariants.{Committees}
 use Rattle.row_tests.specs.Rows.{committee_ok, kind_ok}
 use Rattle.wellformed.proofs.committees_ok_marking.Given as goal
 
-
 -- n rows are left, from a on
 pub record Left (marks t : List ℕ) (n a : ℕ) : Type 0 where
   pub long : length marks ≡ mark_count

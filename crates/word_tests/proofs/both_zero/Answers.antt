@@ -9,14 +9,13 @@ pub loop-i-init : goal.loop-i-init
 loop-i-init c = (omega arith, refl, refl)
 
 pub loop-i-preserved : goal.loop-i-preserved
-loop-i-preserved c = let l = c in (
+loop-i-preserved c = (
   omega arith,
-  zero_more _ l.loop-i.i l.loop-i.low c.loop-i-test.true l.loop-i.invariant.1,
-  zero_more _ l.loop-i.i l.loop-i.high (omega (arith, l.requires)) l.loop-i.invariant.2,
+  zero_more _ c.loop-i.i c.loop-i.low c.loop-i-test.true c.loop-i.invariant.1,
+  zero_more _ c.loop-i.i c.loop-i.high (omega (arith, c.requires)) c.loop-i.invariant.2,
 )
 
 pub returns : goal.returns
-returns c = let l = c in
-    let s = gathered all_zero is_zero zero_nil zero_cons _ l.loop-i.i (eqb l.loop-i.low 0) (omega arith) l.loop-i.invariant.1 in
-    let t = gathered all_zero is_zero zero_nil zero_cons _ l.loop-i.i (eqb l.loop-i.high 0) (omega (arith, l.requires)) l.loop-i.invariant.2 in
+returns c = let s = gathered all_zero is_zero zero_nil zero_cons _ c.loop-i.i (eqb c.loop-i.low 0) (omega arith) c.loop-i.invariant.1 in
+    let t = gathered all_zero is_zero zero_nil zero_cons _ c.loop-i.i (eqb c.loop-i.high 0) (omega (arith, c.requires)) c.loop-i.invariant.2 in
     rw (s, t)

@@ -8,7 +8,6 @@ use Rattle.word_tests.specs.Tests.{mark_count}
 use Rattle.word_tests.proofs.Marks.{Marked}
 use Rattle.word_tests.proofs.distinct_marking.Given as goal
 
-
 -- the words from i on are distinct, and each has its mark
 pub record Seen (stamp : ℕ) (t marks : List ℕ) (i : ℕ) : Type 0 where
   pub within : i ≤ length t

@@ -7,7 +7,6 @@ use Rattle.rules.specs.Board.{Board}
 use Rattle.board.specs.Held.{Holds, no_committee}
 use Rattle.cohorts.proofs.draw.none_joined.Given as goal
 
-
 abbrev pub isNew : ℕ → Board → ℕ → Bool
 isNew j b x = not (has x (get_or b.committees j no_committee).val)
 

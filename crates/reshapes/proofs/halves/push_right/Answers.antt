@@ -1,4 +1,4 @@
-use mathlib.Core.List.{◌∷◌, ◌++◌}
+use mathlib.Core.List.{◌∷◌, ◌++◌, []}
 use native.Mathlib.Omega.{arith}
 use lib.ListN.{get_or, length-append}
 use Rattle.board.specs.Held.{no_reshape}

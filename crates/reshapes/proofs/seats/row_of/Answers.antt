@@ -1,3 +1,4 @@
+use mathlib.Core.List.{[]}
 use lib.ListN.{get_or}
 use Rattle.rules.specs.Board.{most_seats}
 use Rattle.rules.specs.Snapshot.{seat_words}

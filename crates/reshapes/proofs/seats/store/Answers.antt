@@ -1,5 +1,5 @@
 use mathlib.Core.Path.{◌∙◌}
-use mathlib.Core.List.{◌∷◌}
+use mathlib.Core.List.{◌∷◌, []}
 use Rattle.rules.specs.Snapshot.{seat_words}
 use Rattle.shifts.proofs.Parts.{filled}
 use Rattle.reshapes.proofs.seats.store.Goals as goal

@@ -1,4 +1,4 @@
-use mathlib.Core.List.{◌∷◌}
+use mathlib.Core.List.{◌∷◌, []}
 use Rattle.rules.specs.Snapshot.{rotation_words}
 use Rattle.shifts.proofs.Parts.{filled}
 use Rattle.shards.proofs.rotations.store.Goals as goal
