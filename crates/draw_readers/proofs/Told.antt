@@ -6,7 +6,7 @@ use mathlib.Core.Bool.{Bool, true, false, cond}
 use native.Mathlib.Omega.{arith}
 use lib.Dec.{leb}
 use lib.ListN.{length, drop, length-drop}
-use Rattle.rules.specs.Draws.{Drawn, drew, too_large, draw_index}
+use Rattle.rules.specs.Draws.{drew, too_large, draw_index}
 use Rattle.sampling.specs.Reads.{GivesIndex}
 use Rattle.sampling.specs.declared.Drawn as code
 use Rattle.sampling.specs.declared.Drawn.TheVariants as drawn

@@ -1,13 +1,10 @@
 -- What leaving comes to: a party, a carved shard, a seat that is filled again.
 use Prim.Native.Nat.{ℕ, suc, ◌≤◌, ◌<◌}
 use mathlib.Core.Path.{◌≡◌, refl, ap, sym, ◌∙◌}
-use mathlib.Core.Logic.{inl, inr}
 use mathlib.Core.List.{List, [], ◌∷◌}
 use mathlib.Core.Option.{Option}
 use mathlib.Core.Bool.{Bool, true, false, cond}
 use native.Mathlib.Omega.{arith}
-use types.Run.{OneOf}
-use denote.Enum.Declared.{tag_of}
 use lib.ListN.{length, get_or}
 use Rattle.types.specs.Numbers.{Shard, Id}
 use Rattle.types.specs.Places.{is_pooled, short}
@@ -15,7 +12,6 @@ use Rattle.types.specs.declared.ShardId.{ShardId}
 use Rattle.types.specs.declared.Epoch.{Epoch}
 use Rattle.types.specs.declared.Place.{Place}
 use Rattle.types.specs.declared.Place.TheVariants.{Pooled, Seated, Observing, Short, Other}
-use Rattle.types.specs.contracts.Place.{the_type}
 use Rattle.rules.specs.Lists.{◌and◌, ◌or◌, any}
 use Rattle.rules.specs.Table.{is_some, holds_at}
 use Rattle.rules.specs.Board.{split, merge, Reshape, Board, most_reshapes, on_rotations}
@@ -111,12 +107,6 @@ drawn_left s x b ok u ds d e = rw (pool_stands s x b ok u) e
 
 -- ---- the machine at row i
 
--- a place of the tags 0, 3 and 4 is not one of 1 and 2
-other_tag : (n : ℕ) → 1 ≤ n → n ≤ 2 → OneOf (0 ∷ 3 ∷ 4 ∷ []) n → ⊥
-other_tag n a z (inl e) = omega arith
-other_tag n a z (inr (inl e)) = omega arith
-other_tag n a z (inr (inr e)) = omega arith
-
 module _ (b : Board) (i x : ℕ) (k : x ≡ (get_or b.machines i no_machine).key) where
   abbrev its : Place
   its = (get_or b.machines i no_machine).val
@@ -132,14 +122,15 @@ module _ (b : Board) (i x : ℕ) (k : x ≡ (get_or b.machines i no_machine).key
   unfolding leave_from
   from_watch ds s w e = rw (e, ← k)
 
-  -- neither seated nor observing, by the tags of the other places
-  pub from_elsewhere : (ds : List ℕ) → OneOf (0 ∷ 3 ∷ 4 ∷ []) (tag_of the_type its) → leave_from its (get_or b.machines i no_machine).key ds b ≡ finished 0 ds (place (get_or b.machines i no_machine).key short b)
+  pub from_elsewhere : (ds : List ℕ) → ((s : ShardId) (r : Bool) (w : Epoch) → its ≡ Seated s r w → ⊥) → ((s : ShardId) (w : Epoch) → its ≡ Observing s w → ⊥)
+      → leave_from its (get_or b.machines i no_machine).key ds b ≡ finished 0 ds (place (get_or b.machines i no_machine).key short b)
   unfolding leave_from
   from_elsewhere ds = go its
     where
-      go : (p : Place) → OneOf (0 ∷ 3 ∷ 4 ∷ []) (tag_of the_type p) → leave_from p (get_or b.machines i no_machine).key ds b ≡ finished 0 ds (place (get_or b.machines i no_machine).key short b)
-      go Pooled o = refl
-      go (Seated s r w) o = absurd (other_tag 1 (omega arith) (omega arith) o)
-      go (Observing s w) o = absurd (other_tag 2 (omega arith) (omega arith) o)
-      go Short o = refl
-      go (Other m) o = refl
+      go : (p : Place) → ((s : ShardId) (r : Bool) (w : Epoch) → p ≡ Seated s r w → ⊥) → ((s : ShardId) (w : Epoch) → p ≡ Observing s w → ⊥)
+          → leave_from p (get_or b.machines i no_machine).key ds b ≡ finished 0 ds (place (get_or b.machines i no_machine).key short b)
+      go Pooled n o = refl
+      go (Seated s r w) n o = absurd (n s r w refl)
+      go (Observing s w) n o = absurd (o s w refl)
+      go Short n o = refl
+      go (Other m) n o = refl

@@ -18,7 +18,7 @@ use Rattle.rules.specs.Lists.{bit_of}
 use Rattle.rules.specs.Table.{at}
 use Rattle.rules.specs.Board.{split, Seat, Reshape, Board, epoch_of}
 use Rattle.rules.specs.Moves.{put_on, for_all, children_of, height_of}
-use Rattle.rules.specs.Cut.{due, recast, settle, seated_by, cohort_for, settle_child}
+use Rattle.rules.specs.Cut.{recast, settle, seated_by, cohort_for, settle_child}
 use Rattle.rules.proofs.Counts.{Alike, same, apart, alike, hit_same, hit_apart, occ, occ_append}
 use Rattle.rules.proofs.Tables.{tally, occ_keys_where}
 use Rattle.rules.proofs.SeatsFormed.{Sound}

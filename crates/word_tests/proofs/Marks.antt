@@ -9,7 +9,7 @@ use borrow.Author.Tests.{eqb-false}
 use lib.Dec.{eqb}
 use lib.ListN.{length, get_or, set, take, drop, drop_of_length-le}
 use lib.Seq.{get_or-set_same, get_or-set_other, drop-cons}
-use Rattle.rules.specs.Lists.{◌and◌, ◌or◌, any, has, distinct}
+use Rattle.rules.specs.Lists.{◌and◌, any, has, distinct}
 use Rattle.rules.proofs.Counts.{Alike, same, apart, alike}
 use Rattle.rules.proofs.Tests.{or_cases}
 use Rattle.word_tests.specs.Tests.{mark_count}

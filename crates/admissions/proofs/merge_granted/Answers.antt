@@ -12,7 +12,7 @@ pub returns-in-Drawn : goal.returns-in-Drawn
 returns-in-Drawn c = λ b h ok free.
     let w = rw c.in-Drawn.is at c.draw_merge_keepers-drawn.ensures.0 in
     let d = rw c.in-Drawn.is at (c.draw_merge_keepers-drawn.ensures.1 b h ok) in
-    merge_drew _ _ b _ _ c.draw_merge_keepers-drawn.new.1.1.1.0 c.in-Drawn.n c.in-Drawn.m _ d (c.admit_kept.ensures b h ok free _ w.1)
+    merge_drew _ _ b _ _ c.draw_merge_keepers-drawn.new.out c.in-Drawn.n c.in-Drawn.m _ d (c.admit_kept.ensures b h ok free _ w.1)
 
 pub returns-in-Refused : goal.returns-in-Refused
 returns-in-Refused c = λ b h ok free. merge_lacks _ _ b _ _ _ (rw c.in-Refused.is at (c.draw_merge_keepers-drawn.ensures.1 b h ok)) h c.refusal.ensures

@@ -3,7 +3,6 @@ use mathlib.Core.Path.{◌≡◌}
 use native.Mathlib.Omega.{arith}
 use Rattle.phrases.specs.Texts.{bytes}
 use Rattle.answers.specs.Answers.{answers, answer_text}
-use Rattle.lines.proofs.Rests.{NoneOf, rest}
 use Rattle.answers.proofs.put_first_answers.Goals as goal
 
 sixth : (n : ℕ) → 6 ≤ n → n < 7 → n ≡ 6
@@ -34,5 +33,5 @@ unfolding bytes answers answer_text
 returns-in-5 c = rw c.in-5.is c.put_text-in-5.ensures
 
 pub returns-in_default : goal.returns-in_default
-unfolding bytes answers answer_text NoneOf
+unfolding bytes answers answer_text
 returns-in_default c = rw (sixth c.args.answer (omega arith) c.requires) c.put_text-in_default.ensures

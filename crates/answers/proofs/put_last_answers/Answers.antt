@@ -1,7 +1,8 @@
+use Prim.Native.Nat.{◌≤◌}
+use native.Mathlib.Omega.{arith}
 use lib.ListN.{get_or-eq_default}
 use Rattle.phrases.specs.Texts.{bytes}
 use Rattle.answers.specs.Answers.{answers, answer_text}
-use Rattle.lines.proofs.Rests.{NoneOf, rest}
 use Rattle.answers.proofs.put_last_answers.Goals as goal
 
 pub returns-in-7 : goal.returns-in-7
@@ -29,5 +30,5 @@ unfolding bytes answers answer_text
 returns-in-12 c = rw c.in-12.is c.put_text-in-12.ensures
 
 pub returns-in_default : goal.returns-in_default
-unfolding bytes answers answer_text NoneOf
-returns-in_default c = rw (get_or-eq_default answers _ (omega arith)) c.put_text-in_default.ensures
+unfolding bytes answers answer_text
+returns-in_default c = let past : 13 ≤ c.args.answer = omega arith in rw (get_or-eq_default answers _ past) c.put_text-in_default.ensures

@@ -1,7 +1,8 @@
-use mathlib.Core.Path.{refl}
+use native.Mathlib.Omega.{arith}
+use mathlib.Core.Path.{◌≡◌, refl}
 use Rattle.rules.specs.Calls.{tick, admit_split, admit_merge, mark_seat_ready, mark_quiet, draw_cohort, lapse, schedule_splits, schedule_merges, cut_splits, cut_merges, leave, rotate, resolve, time_out, answer_to}
 use Rattle.applying.specs.Asked.{call_at}
-use Rattle.applying.proofs.Asks.{last_step, step_asked}
+use Rattle.applying.proofs.Asks.{step_asked}
 use Rattle.applying.proofs.answer_held.Goals as goal
 
 pub returns-in-1 : goal.returns-in-1
@@ -62,4 +63,4 @@ returns-in-14 c = step_asked _ 14 _ resolve _ _ _ c.in-14.is refl c.resolve_pend
 
 pub returns-in_default : goal.returns-in_default
 unfolding call_at answer_to
-returns-in_default c = step_asked _ 15 _ time_out _ _ _ (omega arith) refl c.auto_ready_timeout_held.ensures
+returns-in_default c = let last : c.args.step ≡ 15 = omega arith in step_asked _ 15 _ time_out _ _ _ last refl c.auto_ready_timeout_held.ensures

@@ -28,7 +28,7 @@ pub overflow_add-handled : goal.overflow_add-handled
 overflow_add-handled c = let p = rw c.in-Done.is at c.cut_split-turned.ensures.0 in omega (arith, p.0, c.loop-i.invariant.2, c.loop-i.invariant.1, c.loop-i-test.true)
 
 pub shape_of-board-in-Refused : goal.shape_of-board-in-Refused
-shape_of-board-in-Refused c = c.cut_split-turned.auto.0 ∙ c.loop-i.invariant.3
+shape_of-board-in-Refused c = c.cut_split-turned.auto.board ∙ c.loop-i.invariant.3
 
 pub returns-in-Refused : goal.returns-in-Refused
 returns-in-Refused c = λ b h ok.
@@ -42,7 +42,7 @@ loop-i-preserved c = let a = c.loop-i in
       omega arith,
       a.invariant.1,
       omega (arith, p.0, a.invariant.2),
-      c.cut_split-turned.auto.0 ∙ a.invariant.3,
+      c.cut_split-turned.auto.board ∙ a.invariant.3,
       a.invariant.4,
       λ b h ok.
           let t = a.invariant.5 b h ok in

@@ -23,4 +23,4 @@ returns-in_default c = λ b h g l.
     let m = c.at-m.ensures b h l in
     let k = ap (λ (x : Machine). x.id.0) m in
     let e = ap (λ (x : Machine). x.place) m in
-    record { board = _; read = c.requires.2; turn = from_elsewhere b _ _ k _ (rw e at c.in_default.keys3); holds = rw c.short.ensures at (c.put_place.ensures b h (machines_rise b g) l) }
+    record { board = _; read = c.requires.2; turn = from_elsewhere b _ _ k _ (λ s r w q. c.in_default.not-Seated s r w (e ∙ q)) (λ s w q. c.in_default.not-Observing s w (e ∙ q)); holds = rw c.short.ensures at (c.put_place.ensures b h (machines_rise b g) l) }

@@ -15,7 +15,7 @@ loop-i-preserved c =
     let a = c.loop-i in (
       omega (arith, a.invariant.0),
       omega arith,
-      c.copy_row.auto.0 ∙ a.invariant.2,
+      c.copy_row.auto.ws ∙ a.invariant.2,
       λ b h l. moved_higher b c.args.j (omega (arith, l, c.requires.1)) _ _ a.i (a.invariant.3 b h l) a.invariant.0 (omega (arith, l, c.loop-i-test.true)) c.copy_row.ensures,
     )
 

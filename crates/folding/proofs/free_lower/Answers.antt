@@ -15,7 +15,7 @@ loop-i-preserved c =
     let a = c.loop-i in (
       omega arith,
       omega (arith, a.invariant.1),
-      c.copy_row.auto.0 ∙ a.invariant.2,
+      c.copy_row.auto.ws ∙ a.invariant.2,
       λ b h l. moved_lower b c.args.j l _ _ a.i (a.invariant.3 b h l) (omega arith) a.invariant.1 c.copy_row.ensures,
     )
 

@@ -14,7 +14,7 @@ pub loop-k-preserved : goal.loop-k-preserved
 loop-k-preserved c = let a = c.loop-k in
     let p = c.args in (
       omega arith,
-      c.push.auto.0 ∙ a.invariant.1,
+      c.push.auto.board ∙ a.invariant.1,
       λ b h l m.
           let d = length-take a.k p.half.now in
           let r = half_long b p.i l p.left (take a.k p.half.now) in

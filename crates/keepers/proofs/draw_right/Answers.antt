@@ -11,7 +11,7 @@ returns-in-Done c =
     let e = c.keepers_of-rights.ensures in
     let w = rw c.in-Done.is at e.1 in
     let m = c.in-Done.m in
-    let part = c.keepers_of-rights.new.1.1.1.1.1.1.0 in
+    let part = c.keepers_of-rights.new.out in
     let few : m ≤ length part = omega (arith, simp (length-take, length-drop) at e.0, w.0, p.2, p.5) in (
       (omega (arith, w.0, p.2), w.1),
       λ b h ok. right_done _ b _ _ c.right.ensures _ a.n (length a.out.now - a.n) a.out.now part _ (omega (arith, p.2, p.5)) m few _ (rw c.in-Done.is at (e.2 b h ok)),

@@ -13,7 +13,7 @@ fill_share-requires c =
     let a = c.args in
     let p = c.requires in
     let d = rw c.in-Done.is at c.mix-mixed.ensures.1 in
-    let l = front_long a.m c.mix-mixed.new.0 a.out.now p.1 c.mix-mixed.ensures.0 in
+    let l = front_long a.m c.mix-mixed.new.ids a.out.now p.1 c.mix-mixed.ensures.0 in
     (omega (arith, d.read), rw l p.1, rw l p.2)
 
 pub returns-in-Done : goal.returns-in-Done
@@ -22,7 +22,7 @@ returns-in-Done c =
     let m = c.mix-mixed.ensures in
     let d = rw c.in-Done.is at m.1 in
     let f = c.fill_share.ensures in
-    let drawn = front_taken a.m c.mix-mixed.new.0 a.out.now c.requires.1 m.0 in
+    let drawn = front_taken a.m c.mix-mixed.new.ids a.out.now c.requires.1 m.0 in
     (f.0 ∙ search rules, f.1, rw (then_is _ _ _ _ d _) (rw drawn at f.2))
 
 pub returns-in-Refused : goal.returns-in-Refused

@@ -20,7 +20,7 @@ pub returns : goal.returns
 returns c =
     let e = c.gather_seated-counts.ensures in
     let k = c.gather_seated-counts.result.ready in
-    let ready = c.gather_seated-counts.new.1.1.0 in
+    let ready = c.gather_seated-counts.new.ready in
     let l : k ≤ length ready = omega (arith, e.0, e.1) in
     let f = c.draw_share.ensures in (
       f.0 ∙ search rules,

@@ -22,7 +22,7 @@ loop-k-preserved c = let a = c.loop-k in (
   omega arith,
   a.invariant.1,
   omega (arith, c.send_back-r.ensures.0),
-  c.send_back-r.auto.0 ∙ a.invariant.3,
+  c.send_back-r.auto.board ∙ a.invariant.3,
   λ b h ok l.
       let t = a.invariant.4 b h ok l in (
         t.0,

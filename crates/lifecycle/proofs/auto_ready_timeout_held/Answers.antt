@@ -30,7 +30,7 @@ loop-i-preserved c =
       omega arith,
       a.invariant.1,
       omega (arith, c.age_at-k.ensures.0),
-      c.age_at-k.auto.0 ∙ a.invariant.3,
+      c.age_at-k.auto.board ∙ a.invariant.3,
       λ b h. age_turn b _ _ _ _ _ _ (a.invariant.4 b h) (omega arith) _ _ c.age_at-k.ensures.1,
     )
 

@@ -1,7 +1,6 @@
 use Prim.Native.Nat.{◌<◌}
 use mathlib.Core.Path.{◌≡◌, refl, ap, sym, ◌∙◌}
 use mathlib.Core.Bool.{true}
-use mathlib.Core.Logic.{⊎_elim}
 use native.Mathlib.Omega.{arith}
 use lib.ListN.{length, get_or}
 use Rattle.types.specs.Places.{is_pooled}
@@ -9,6 +8,7 @@ use Rattle.types.specs.declared.Machine.{Machine}
 use Rattle.rules.specs.Moves.{pool_of}
 use Rattle.board.specs.Held.{no_machine}
 use Rattle.pool.proofs.Pools.{rank_found, rank_passed, rank_counted, rank_ended}
+use Rattle.pool.proofs.pooled_at_rank.Goals.{then-is_pooled+else-left-eq0, else-is_pooled}
 use Rattle.pool.proofs.pooled_at_rank.Goals as goal
 
 pub loop-i-init : goal.loop-i-init
@@ -38,10 +38,10 @@ loop-i-preserved c =
           let p : is_pooled (get_or b.machines a.i no_machine).val ≡ c.is_pooled.result =
           ap (λ (m : Machine). is_pooled m.place) (sym (c.at-m.ensures b h w)) ∙ sym c.is_pooled.ensures in (
             t.0,
-            ⊎_elim
-                (λ u. rw u.2 (rank_counted is_pooled b.machines a.i a.left _ t.1 no_machine w (p ∙ u.0.taken) u.1.left))
-                (λ u. rw u.1 (rank_passed is_pooled b.machines a.i a.left _ t.1 no_machine w (p ∙ u.0.left)))
-                c.if-is_pooled.branch,
+            elim c.if-is_pooled.branch [
+              | then-is_pooled+else-left-eq0 u ↦ rw u.left-is (rank_counted is_pooled b.machines a.i a.left _ t.1 no_machine w (p ∙ u.if-is_pooled.true) u.if-left-eq0.false)
+              | else-is_pooled u ↦ rw u.left-is (rank_passed is_pooled b.machines a.i a.left _ t.1 no_machine w (p ∙ u.if-is_pooled.false))
+            ],
           ),
     )
 

@@ -18,7 +18,7 @@ loop-i-preserved c = let a = c.loop-i in (
   omega arith,
   a.invariant.1,
   omega (arith, c.turn_at-row.ensures.0),
-  c.turn_at-row.auto.0 ∙ a.invariant.3,
+  c.turn_at-row.auto.board ∙ a.invariant.3,
   λ b h ok m.
       let t = a.invariant.4 b h ok m in
       let l : a.i < length b.rotations = omega (arith, t.0) in

@@ -24,7 +24,7 @@ loop-i-preserved c = let a = c.loop-i in
     let t = rw e at c.try_schedule_merge-turned.ensures.0 in (
       omega arith,
       omega (arith, t.0, a.invariant.1),
-      c.try_schedule_merge-turned.auto.0 ∙ a.invariant.2,
+      c.try_schedule_merge-turned.auto.board ∙ a.invariant.2,
       λ b h ok. run_on _ b _ _ _ _ (a.invariant.3 b h ok) c.loop-i-test.true _ c.try_schedule_merge-turned.ensures.1 _ _ e,
     )
 

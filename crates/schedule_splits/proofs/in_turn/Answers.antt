@@ -25,7 +25,7 @@ loop-i-preserved c = let a = c.loop-i in
       omega arith,
       omega (arith, t.0, a.invariant.1),
       t.1,
-      c.try_schedule_split-turned.auto.0 ∙ a.invariant.3,
+      c.try_schedule_split-turned.auto.board ∙ a.invariant.3,
       λ b h ok q. run_on _ _ b _ _ _ _ _ (a.invariant.4 b h ok q) c.loop-i-test.true _ c.try_schedule_split-turned.ensures.1 _ _ e,
     )
 

@@ -16,7 +16,7 @@ pub plan_at-plan-requires : goal.plan_at-plan-requires
 plan_at-plan-requires c = (c.requires.0, c.if-i-ge-MOST_RESHAPES.false, c.gated_row-i.ensures.0 c.if-i-ge-MOST_RESHAPES.false)
 
 pub schedule-requires : goal.schedule-requires
-schedule-requires c = (c.abort_rotations-in-Schedule.auto.0 ∙ c.requires.0, c.if-i-ge-MOST_RESHAPES.false, c.gated_row-i.ensures.0 c.if-i-ge-MOST_RESHAPES.false, c.requires.1)
+schedule-requires c = (c.abort_rotations-in-Schedule.auto.board ∙ c.requires.0, c.if-i-ge-MOST_RESHAPES.false, c.gated_row-i.ensures.0 c.if-i-ge-MOST_RESHAPES.false, c.requires.1)
 
 pub returns-in-Stamp : goal.returns-in-Stamp
 returns-in-Stamp c = (

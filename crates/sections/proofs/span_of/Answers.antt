@@ -1,4 +1,4 @@
-use Rattle.lines.proofs.Rests.{NoneOf, rest}
+use Prim.Native.Nat.{◌≤◌}
 use mathlib.Core.Path.{◌≡◌, sym}
 use native.Mathlib.Omega.{arith}
 use lib.ListN.{get_or-eq_default}
@@ -46,5 +46,5 @@ unfolding span_of spans
 returns-in-9 c = let e : c.args.which ≡ 9 = omega arith in (rw e, omega arith)
 
 pub returns-in_default : goal.returns-in_default
-unfolding span_of spans NoneOf
-returns-in_default c = (sym (get_or-eq_default (spans c.args.j) (span 0 0) (omega arith)), omega arith)
+unfolding span_of spans
+returns-in_default c = let past : 10 ≤ c.args.which = omega arith in (sym (get_or-eq_default (spans c.args.j) (span 0 0) past), omega arith)

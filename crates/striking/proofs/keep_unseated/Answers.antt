@@ -34,7 +34,7 @@ loop-m-preserved c =
       omega (arith, c.bit.ensures, bit_most (not c.has_seat-seated.result)),
       omega arith,
       a.invariant.2,
-      c.put_member.auto.0 ∙ a.invariant.3,
+      c.put_member.auto.board ∙ a.invariant.3,
       λ b h l.
           let t = a.invariant.4 b h l in (
             t.0,

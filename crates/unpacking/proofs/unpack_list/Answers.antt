@@ -32,6 +32,6 @@ returns c = λ ws h.
     let a = c.args in
     let n = c.word-n.result in
     let fits : 1 + n * a.w ≤ length a.out.now = omega (arith, mul-le-mul_right a.w c.if-cap-n.false, c.requires) in
-    let t = c.unpack_words.new.1.1.0 in
+    let t = c.unpack_words.new.out in
     let z = ap (λ u. t ++ u) (room_cleared (1 + n * a.w) a.out.now _ fits c.wipe.ensures) ∙ ap (λ (k : ℕ). t ++ replicate (k - (1 + n * a.w)) 0) c.requires in
     list_read a.w a.cap n a.at c.unpack_words.result ws _ t _ (c.word-n.ensures ws h) (omega arith) (omega (arith, c.out-1.given.1)) z c.out-2-1.given.0 (c.unpack_words.ensures ws h)

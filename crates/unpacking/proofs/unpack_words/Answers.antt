@@ -14,5 +14,5 @@ returns-then-total-at-2 c = λ ws h. let a = c.args in words_none h a.at (length
 
 pub returns : goal.returns
 returns c = λ ws h. let a = c.args in
-    subst (λ (n : ℕ). PartRead plain (Wide (length a.out.now)) ws c.get_words.new.1.1.0 a.at (a.at + n)) (sym c.out-1.given)
+    subst (λ (n : ℕ). PartRead plain (Wide (length a.out.now)) ws c.get_words.new.out a.at (a.at + n)) (sym c.out-1.given)
     (words_read h a.at (length a.out.now) _ (omega arith) c.get_words.ensures.1)

@@ -9,7 +9,7 @@ use Rattle.cohorts.proofs.Draws.{mix_missing, mix_large, mix_done, awaits_none, 
 use Rattle.cohorts.proofs.draw.draw_from.Goals as goal
 
 pub slice_bounds-enlist-end-in-Done : goal.slice_bounds-enlist-end-in-Done
-slice_bounds-enlist-end-in-Done c = sym (length-take-le c.args.size c.shuffle-shuffled.new.1.0 (omega (arith, c.shuffle-shuffled.auto.1, c.requires.4)))
+slice_bounds-enlist-end-in-Done c = sym (length-take-le c.args.size c.shuffle-shuffled.new.ids (omega (arith, c.shuffle-shuffled.auto.ids, c.requires.4)))
 
 pub enlist-requires : goal.enlist-requires
 enlist-requires c = let p = c.requires in (p.0, p.1, p.2, rw length-take (omega (arith, p.3)))

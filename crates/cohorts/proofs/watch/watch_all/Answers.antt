@@ -12,7 +12,7 @@ loop-k-init c = (
 
 pub loop-k-preserved : goal.loop-k-preserved
 loop-k-preserved c = let a = c.loop-k in (
-  c.watch.auto.0 ∙ a.invariant.0,
+  c.watch.auto.board ∙ a.invariant.0,
   λ b h ok l e empty good may.
       let t = a.invariant.1 b h ok l e empty good may in
       (t.0, one_watched _ _ _ b _ _ t.1 c.loop-k-test.true _ refl _ (c.child_of-child.ensures ∙ rw t.0) _ c.watch.ensures),

@@ -13,7 +13,7 @@ pub loop-i-preserved : goal.loop-i-preserved
 loop-i-preserved c = let a = c.loop-i in (
   omega arith,
   a.invariant.1,
-  c.take_off_entrant.auto.0 ∙ a.invariant.2,
+  c.take_off_entrant.auto.board ∙ a.invariant.2,
   λ b h ok.
       let t = a.invariant.3 b h ok in
       (t.0, one_left _ b _ _ t.1 (omega (arith, t.0)) _ c.take_off_entrant.ensures),

@@ -27,7 +27,7 @@ pub loop-k-preserved : goal.loop-k-preserved
 loop-k-preserved c = let a = c.loop-k in (
   omega arith,
   a.invariant.1,
-  c.rejoin.auto.0 ∙ a.invariant.2,
+  c.rejoin.auto.board ∙ a.invariant.2,
   λ b h ok l tg e.
       let g = c.args in
       let t = a.invariant.3 b h ok l tg e in

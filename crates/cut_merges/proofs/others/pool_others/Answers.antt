@@ -32,7 +32,7 @@ pub loop-k-preserved : goal.loop-k-preserved
 loop-k-preserved c = let a = c.loop-k in (
   omega arith,
   a.invariant.1,
-  c.pool_other.auto.0 ∙ a.invariant.2,
+  c.pool_other.auto.board ∙ a.invariant.2,
   λ b h ok l.
       let f = c.committee_row-j.ensures b h ok in
       let m = f.inside c.if-j-ge-MOST_COMMITTEES.false in

@@ -34,7 +34,7 @@ loop-k-preserved c = let a = c.loop-k in (
   omega arith,
   a.invariant.1,
   a.invariant.2,
-  c.settle_next.auto.0 ∙ a.invariant.3,
+  c.settle_next.auto.board ∙ a.invariant.3,
   λ b h ok l tg e.
       let g = c.args in
       let t = a.invariant.4 b h ok l tg e in
