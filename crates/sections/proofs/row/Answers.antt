@@ -23,8 +23,8 @@ overflow_add-s c = let h = row_within c.args.w c.args.i c.args.t.now (omega arit
 pub overflow_add-e : goal.overflow_add-e
 overflow_add-e c = let h = row_within c.args.w c.args.i c.args.t.now (omega arith) (omega arith) (omega arith) in omega arith
 
-pub slice_bounds-result-end : goal.slice_bounds-result-end
-slice_bounds-result-end c = let h = row_within c.args.w c.args.i c.args.t.now (omega arith) (omega arith) (omega arith) in search rules
+pub slice_bounds-result-end-2 : goal.slice_bounds-result-end-2
+slice_bounds-result-end-2 c = let h = row_within c.args.w c.args.i c.args.t.now (omega arith) (omega arith) (omega arith) in search rules
 
 pub returns : goal.returns
 returns c = let w = c.args.w in let i = c.args.i in let z : 1 + i * w + w - (1 + i * w) ≡ w = omega arith in rw z (sym (row_there w i c.args.t.now (omega arith) (omega arith) (omega arith)))
