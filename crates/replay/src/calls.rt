@@ -1,5 +1,6 @@
 // A recorded call, and the export that makes it.
 use crate::input;
+use std::io::Read;
 
 // What was asked, and what came of it.
 #[derive(Clone, Copy)]
@@ -14,17 +15,17 @@ pub struct Call {
     pub side: u64,
 }
 
-pub(crate) fn next(fd: i32) -> Call {
-    let packed = input::word(fd);
+pub(crate) fn next(file: &mut impl Read) -> Call {
+    let packed = input::word(file);
     Call {
         step: packed % 256,
         answer: packed / 256 % 256,
         handled: packed / 65536 % 65536,
         used: packed / 4294967296 % 65536,
         draws: packed / 281474976710656,
-        shard: input::word(fd),
-        machine: input::word(fd),
-        side: input::word(fd),
+        shard: input::word(file),
+        machine: input::word(file),
+        side: input::word(file),
     }
 }
 

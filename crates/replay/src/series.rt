@@ -4,6 +4,7 @@ ghost use Rattle.std.specs.Prelude.{◌≡◌, length};
 use crate::calls::Call;
 use crate::tally::PLACES;
 use crate::{calls, input, sums, tally};
+use std::io::Read;
 
 const WORDS: usize = 5861;
 
@@ -30,6 +31,13 @@ fn board_room(fill: u64) -> [u64; WORDS]
     [fill; WORDS]
 }
 
+// Room for a snapshot.
+fn bytes_room() -> [u8; 65536]
+    ensures { 65536 ≡ length result }
+{
+    [0; 65536]
+}
+
 // Room for the draws of a call.
 fn draws_room() -> [u64; 4096]
     ensures { 4096 ≡ length result }
@@ -39,7 +47,7 @@ fn draws_room() -> [u64; 4096]
 
 // The checksum of the board's snapshot; 0 where the words hold no well-formed board.
 fn sum_of(board: &[u64]) -> u64 {
-    let mut snapshot = io::large_buffer();
+    let mut snapshot = bytes_room();
     let mut length: u64 = 0;
     if roster::roster_write(board, &mut snapshot, &mut length) != 0 {
         return 0;
@@ -50,13 +58,13 @@ fn sum_of(board: &[u64]) -> u64 {
 
 // Whether the board's snapshot has these bytes.
 fn is_written_as(board: &[u64], bytes: &[u8]) -> bool {
-    let mut snapshot = io::large_buffer();
+    let mut snapshot = bytes_room();
     let mut length: u64 = 0;
     if roster::roster_write(board, &mut snapshot, &mut length) != 0 {
         return false;
     }
     let n = input::bytes_within(length, &snapshot);
-    check::same(&snapshot[..n], bytes)
+    &snapshot[..n] == bytes
 }
 
 // A snapshot is read, and written back; words with its structure that are no board's are laid out all the same.
@@ -86,7 +94,7 @@ fn reads_again(call: Call, start: &[u8], good: bool, board: &[u64; WORDS]) -> bo
     if !good {
         return reads_as(call, start, board);
     }
-    let mut snapshot = io::large_buffer();
+    let mut snapshot = bytes_room();
     let mut length: u64 = 0;
     if roster::roster_write(board, &mut snapshot, &mut length) != 0 {
         return false;
@@ -109,17 +117,17 @@ fn makes_as(call: Call, draws: &[u64], board: &mut [u64; WORDS], sum: u64) -> bo
 
 // One call, made while the board is the recorded one: whether it still is.
 fn follow_call(
-    fd: i32,
+    file: &mut impl Read,
     start: &[u8],
     good: bool,
     board: &mut [u64; WORDS],
     known: bool,
     tally: &mut [u64; PLACES],
 ) -> bool {
-    let call = calls::next(fd);
+    let call = calls::next(file);
     let mut draws = draws_room();
-    let n = input::words(fd, call.draws, &mut draws);
-    let sum = input::word(fd);
+    let n = input::words(file, call.draws, &mut draws);
+    let sum = input::word(file);
     if !known {
         tally::pass_over(tally, call.step);
         return false;
@@ -135,32 +143,31 @@ fn follow_call(
 }
 
 fn follow_calls(
-    fd: i32,
+    file: &mut impl Read,
     start: &[u8],
     good: bool,
     board: &mut [u64; WORDS],
     tally: &mut [u64; PLACES],
 ) -> bool {
     let mut known = true;
-    let mut left = input::word(fd) % MOST_CALLS;
-    while 0 < left {
-        known = follow_call(fd, start, good, board, known, tally);
-        left -= 1;
+    for _ in 0..input::word(file) % MOST_CALLS {
+        known = follow_call(file, start, good, board, known, tally);
     }
     known
 }
 
 // The snapshot after the last call.
 fn end(
-    fd: i32,
+    file: &mut impl Read,
     start: &[u8],
     good: bool,
     board: &[u64; WORDS],
     known: bool,
     tally: &mut [u64; PLACES],
 ) {
-    let mut last = io::large_buffer();
-    let n = input::bytes(fd, input::word(fd) % MOST_WORDS * 8, &mut last);
+    let mut last = bytes_room();
+    let long = input::word(file) % MOST_WORDS * 8;
+    let n = input::bytes(file, long, &mut last);
     if !known {
         tally::pass_over(tally, LAST);
         return;
@@ -168,17 +175,17 @@ fn end(
     if good {
         tally::add(tally, LAST, is_written_as(board, &last[..n]));
     } else {
-        tally::add(tally, LAST, check::same(start, &last[..n]));
+        tally::add(tally, LAST, start == &last[..n]);
     }
 }
 
-pub(crate) fn follow(fd: i32, tally: &mut [u64; PLACES]) {
+pub(crate) fn follow(file: &mut impl Read, tally: &mut [u64; PLACES]) {
     let mut board = board_room(0);
-    let mut start = io::large_buffer();
-    let long = input::word(fd) % MOST_BYTES;
-    let m = input::bytes(fd, (long + 7) / 8 * 8, &mut start);
+    let mut start = bytes_room();
+    let long = input::word(file) % MOST_BYTES;
+    let m = input::bytes(file, (long + 7) / 8 * 8, &mut start);
     let n = input::bytes_within(long, &start);
     let good = begins(&start[..n], &mut board, tally);
-    let known = follow_calls(fd, &start[..n], good, &mut board, tally);
-    end(fd, &start[..m], good, &board, known, tally);
+    let known = follow_calls(file, &start[..n], good, &mut board, tally);
+    end(file, &start[..m], good, &board, known, tally);
 }

@@ -1,7 +1,7 @@
 // Three counts for each step, and for the starting snapshots at places 0 and 17: as recorded, different, not made.
 ghost use Rattle.std.specs.Prelude.{◌+◌, ◌<◌};
 
-use libc::STDOUT_FILENO;
+use std::io;
 
 pub const PLACES: usize = 54;
 
@@ -39,48 +39,44 @@ pub(crate) fn pass_over(tally: &mut [u64; PLACES], place: u64) {
     count(tally, at + 2);
 }
 
-fn print_name(place: u64) {
-    let out = STDOUT_FILENO;
-    match place {
-        0 => io::write_all(out, b"snapshot read and written back"),
-        1 => io::write_all(out, b"tick"),
-        2 => io::write_all(out, b"admit split"),
-        3 => io::write_all(out, b"admit merge"),
-        4 => io::write_all(out, b"mark seat ready"),
-        5 => io::write_all(out, b"mark quiet"),
-        6 => io::write_all(out, b"draw cohort"),
-        7 => io::write_all(out, b"lapse"),
-        8 => io::write_all(out, b"schedule splits"),
-        9 => io::write_all(out, b"schedule merges"),
-        10 => io::write_all(out, b"cut splits"),
-        11 => io::write_all(out, b"cut merges"),
-        12 => io::write_all(out, b"leave"),
-        13 => io::write_all(out, b"rotate"),
-        14 => io::write_all(out, b"resolve"),
-        15 => io::write_all(out, b"time out"),
-        16 => io::write_all(out, b"read"),
-        _ => io::write_all(out, b"snapshot after the last call"),
+fn print_name(rt: &impl Print, place: u64) -> io::Result<()> {
+    let name = match place {
+        0 => "snapshot read and written back",
+        1 => "tick",
+        2 => "admit split",
+        3 => "admit merge",
+        4 => "mark seat ready",
+        5 => "mark quiet",
+        6 => "draw cohort",
+        7 => "lapse",
+        8 => "schedule splits",
+        9 => "schedule merges",
+        10 => "cut splits",
+        11 => "cut merges",
+        12 => "leave",
+        13 => "rotate",
+        14 => "resolve",
+        15 => "time out",
+        16 => "read",
+        _ => "snapshot after the last call",
     };
+    print!(rt; "{name}")
 }
 
-fn print_row(tally: &[u64; PLACES], place: usize)
+fn print_row(rt: &impl Print, tally: &[u64; PLACES], place: usize) -> io::Result<()>
     requires { place < 18 }
 {
     let at = 3 * place;
-    print_name(place as u64);
-    io::write_all(STDOUT_FILENO, b": ");
-    io::print_decimal(STDOUT_FILENO, tally[at]);
-    io::write_all(STDOUT_FILENO, b" as recorded, ");
-    io::print_decimal(STDOUT_FILENO, tally[at + 1]);
-    io::write_all(STDOUT_FILENO, b" different, ");
-    io::print_decimal(STDOUT_FILENO, tally[at + 2]);
-    io::write_all(STDOUT_FILENO, b" not made\n");
+    let same = tally[at];
+    let different = tally[at + 1];
+    let not_made = tally[at + 2];
+    print_name(rt, place as u64)?;
+    println!(rt; ": {same} as recorded, {different} different, {not_made} not made")
 }
 
-pub(crate) fn print(tally: &[u64; PLACES]) {
-    let mut place: usize = 0;
-    while place < 18 {
-        print_row(tally, place);
-        place += 1;
+pub(crate) fn print(rt: &impl Print, tally: &[u64; PLACES]) -> io::Result<()> {
+    for place in 0..18 {
+        print_row(rt, tally, place)?;
     }
+    Ok(())
 }

@@ -11,6 +11,9 @@ use fault_rows::Clause;
 use lines::put_text;
 use reshapes::{fields, seats as cohort};
 use shards::rotations;
+use std::env::Env;
+use std::fs::Files;
+use std::io;
 use types::{ShardId, ValidatorId};
 
 fn target(board: &[u64; WORDS], i: usize) -> ShardId {
@@ -20,128 +23,163 @@ fn target(board: &[u64; WORDS], i: usize) -> ShardId {
     fields::target_at(board, i)
 }
 
-fn tell_place(board: &[u64; WORDS], id: ValidatorId) {
+fn tell_place(rt: &impl Print, board: &[u64; WORDS], id: ValidatorId) -> io::Result<()> {
     if !facts::has_record(board, id) {
-        return text(b"    it has no record\n");
+        return text(rt, b"    it has no record\n");
     }
     let mut line = [0u8; WIDTH];
     let a = put_text(&mut line, 0, b"    it is ");
     let b = phrases::put_place(&mut line, a, rows::place_of(board, id));
-    end(&line, b);
+    end(rt, &line, b)
 }
 
-fn tell_machine(fault: MachineFault, board: &[u64; WORDS], id: ValidatorId, shard: ShardId) {
+fn tell_machine(
+    rt: &impl Print,
+    fault: MachineFault,
+    board: &[u64; WORDS],
+    id: ValidatorId,
+    shard: ShardId,
+) -> io::Result<()> {
     let mut line = [0u8; WIDTH];
     let a = fault_lines::put_machine_fault(&mut line, 0, fault, id, shard);
-    end(&line, a);
-    tell_place(board, id);
+    end(rt, &line, a)?;
+    tell_place(rt, board, id)
 }
 
-fn tell_member(board: &[u64; WORDS], j: usize, k: usize) {
+fn tell_member(rt: &impl Print, board: &[u64; WORDS], j: usize, k: usize) -> io::Result<()> {
     if MOST_COMMITTEES <= j {
-        return;
+        return Ok(());
     }
     if MOST_MEMBERS <= k {
-        return;
+        return Ok(());
     }
     let id = committees::member_at(board, j, k);
     let shard = committees::shard_at(board, j);
-    tell_machine(MachineFault::StrayMember, board, id, shard);
+    tell_machine(rt, MachineFault::StrayMember, board, id, shard)
 }
 
-fn tell_seat(board: &[u64; WORDS], i: usize, k: usize) {
+fn tell_seat(rt: &impl Print, board: &[u64; WORDS], i: usize, k: usize) -> io::Result<()> {
     if MOST_RESHAPES <= i {
-        return;
+        return Ok(());
     }
     if MOST_SEATS <= k {
-        return;
+        return Ok(());
     }
     let seat = cohort::at(board, i, k);
-    tell_machine(MachineFault::AbsentSeat, board, seat.id, target(board, i));
+    tell_machine(
+        rt,
+        MachineFault::AbsentSeat,
+        board,
+        seat.id,
+        target(board, i),
+    )
 }
 
-fn tell_record(fault: MachineFault, board: &[u64; WORDS], i: usize, k: usize) {
+fn tell_record(
+    rt: &impl Print,
+    fault: MachineFault,
+    board: &[u64; WORDS],
+    i: usize,
+    k: usize,
+) -> io::Result<()> {
     if MOST_MACHINES <= k {
-        return;
+        return Ok(());
     }
     let m = machines::at(board, k);
-    tell_machine(fault, board, m.id, target(board, i));
+    tell_machine(rt, fault, board, m.id, target(board, i))
 }
 
-fn tell_rotation(fault: RotationFault, board: &[u64; WORDS], k: usize) {
+fn tell_rotation(
+    rt: &impl Print,
+    fault: RotationFault,
+    board: &[u64; WORDS],
+    k: usize,
+) -> io::Result<()> {
     if MOST_ROTATIONS <= k {
-        return;
+        return Ok(());
     }
     let r = rotations::at(board, k);
     let mut line = [0u8; WIDTH];
     let a = fault_lines::put_rotation_fault(&mut line, 0, r.shard, r.victim, r.entrant);
-    end(&line, a);
+    end(rt, &line, a)?;
     let mut more = [0u8; WIDTH];
     let b = fault_lines::put_rotation_wrong(&mut more, 0, fault);
-    end(&more, b);
+    end(rt, &more, b)
 }
 
-fn tell_reshape(fault: ReshapeFault, board: &[u64; WORDS], i: usize, k: usize) {
+fn tell_reshape(
+    rt: &impl Print,
+    fault: ReshapeFault,
+    board: &[u64; WORDS],
+    i: usize,
+    k: usize,
+) -> io::Result<()> {
     let mut line = [0u8; WIDTH];
     let a = fault_lines::put_reshape_fault(&mut line, 0, fault, target(board, k), target(board, i));
-    end(&line, a);
+    end(rt, &line, a)
 }
 
-fn tell_fault(clause: Clause, board: &[u64; WORDS], i: usize, k: usize) {
+fn tell_fault(
+    rt: &impl Print,
+    clause: Clause,
+    board: &[u64; WORDS],
+    i: usize,
+    k: usize,
+) -> io::Result<()> {
     match clause {
-        Clause::StrayMember => tell_member(board, i, k),
-        Clause::Unlisted => tell_record(MachineFault::Unlisted, board, i, k),
-        Clause::AbsentSeat => tell_seat(board, i, k),
-        Clause::Unseated => tell_rotation(RotationFault::Unseated, board, k),
-        Clause::SharedParty => tell_rotation(RotationFault::SharedParty, board, k),
-        Clause::SplitThere => tell_rotation(RotationFault::SplitThere, board, k),
-        Clause::Unhalved => tell_record(MachineFault::Unhalved, board, i, k),
-        Clause::Overlapping => tell_reshape(ReshapeFault::Overlapping, board, i, k),
-        Clause::Unfounded => tell_reshape(ReshapeFault::Unfounded, board, i, k),
+        Clause::StrayMember => tell_member(rt, board, i, k),
+        Clause::Unlisted => tell_record(rt, MachineFault::Unlisted, board, i, k),
+        Clause::AbsentSeat => tell_seat(rt, board, i, k),
+        Clause::Unseated => tell_rotation(rt, RotationFault::Unseated, board, k),
+        Clause::SharedParty => tell_rotation(rt, RotationFault::SharedParty, board, k),
+        Clause::SplitThere => tell_rotation(rt, RotationFault::SplitThere, board, k),
+        Clause::Unhalved => tell_record(rt, MachineFault::Unhalved, board, i, k),
+        Clause::Overlapping => tell_reshape(rt, ReshapeFault::Overlapping, board, i, k),
+        Clause::Unfounded => tell_reshape(rt, ReshapeFault::Unfounded, board, i, k),
     }
 }
 
-fn walk(clause: Clause, board: &[u64; WORDS], i: usize) {
+fn walk(rt: &impl Print, clause: Clause, board: &[u64; WORDS], i: usize) -> io::Result<()> {
     let n = fault_rows::rows_inside(clause, board, i);
     let mut k = fault_rows::next_fault(clause, board, i, fault_rows::first_of(clause, i));
     while k < n {
-        tell_fault(clause, board, i, k);
+        tell_fault(rt, clause, board, i, k)?;
         k = fault_rows::next_fault(clause, board, i, k + 1);
     }
+    Ok(())
 }
 
-fn over(clause: Clause, board: &[u64; WORDS]) {
+fn over(rt: &impl Print, clause: Clause, board: &[u64; WORDS]) -> io::Result<()> {
     let n = fault_rows::rows_outside(clause, board);
-    let mut i: usize = 0;
-    while i < n {
-        walk(clause, board, i);
-        i += 1;
+    for i in 0..n {
+        walk(rt, clause, board, i)?;
     }
+    Ok(())
 }
 
-fn tell(board: &[u64; WORDS]) {
+fn tell(rt: &impl Print, board: &[u64; WORDS]) -> io::Result<()> {
     if seats::seat_check(board) {
-        text(b"yes: the seat check passes\n");
-        return;
+        return text(rt, b"yes: the seat check passes\n");
     }
-    over(Clause::StrayMember, board);
-    over(Clause::Unlisted, board);
-    over(Clause::AbsentSeat, board);
-    over(Clause::Unseated, board);
-    over(Clause::SharedParty, board);
-    over(Clause::SplitThere, board);
-    over(Clause::Unhalved, board);
-    over(Clause::Overlapping, board);
-    over(Clause::Unfounded, board);
-    text(b"no: the seat check fails\n");
+    over(rt, Clause::StrayMember, board)?;
+    over(rt, Clause::Unlisted, board)?;
+    over(rt, Clause::AbsentSeat, board)?;
+    over(rt, Clause::Unseated, board)?;
+    over(rt, Clause::SharedParty, board)?;
+    over(rt, Clause::SplitThere, board)?;
+    over(rt, Clause::Unhalved, board)?;
+    over(rt, Clause::Overlapping, board)?;
+    over(rt, Clause::Unfounded, board)?;
+    text(rt, b"no: the seat check fails\n")
 }
 
-pub(crate) fn run() {
-    if args::too_many(3) {
-        return;
+pub(crate) fn run(rt: &(impl Env + Files + Print)) -> io::Result<()> {
+    if args::too_many(rt, 3)? {
+        return Ok(());
     }
     let mut board = [0u64; WORDS];
-    if files::read_board(2, &mut board) {
-        tell(&board);
+    if files::read_board(rt, 2, &mut board)? {
+        tell(rt, &board)?;
     }
+    Ok(())
 }

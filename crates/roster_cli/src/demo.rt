@@ -2,6 +2,7 @@
 use crate::files::WORDS;
 use crate::say::text;
 use crate::{calls, diffs, say, show, trying};
+use std::io;
 
 // ---- the boards, as the words of a snapshot, each in a byte: epoch 5, D 2, W 3, interval 10, most 2 in flight; shard 1 with its
 // members seated and ready, its boundary, and as many machines in the pool
@@ -12,12 +13,10 @@ fn read(bytes: &[u8; 1024], size: usize, board: &mut [u64; WORDS]) {
 
 fn load(words: &[u8], size: usize, board: &mut [u64; WORDS]) {
     let mut bytes = [0u8; 1024];
-    let mut i: usize = 0;
-    while i < words.len() {
+    for i in 0..words.len() {
         if i < 128 {
             bytes[8 * i] = words[i];
         }
-        i += 1;
     }
     read(&bytes, size, board);
 }
@@ -81,9 +80,10 @@ fn make(k: u64, order: &[u64], board: &mut [u64; WORDS], results: &mut [u64; 2])
     calls::make(step, 1, seat_at(k), board, &[0, 0, 0, 0], results)
 }
 
-fn tell_step(k: usize) {
-    text(b"\n");
+fn tell_step(rt: &impl Print, k: usize) -> io::Result<()> {
+    text(rt, b"\n")?;
     say::row(
+        rt,
         b"> admit_split 1: a split of shard 1 is admitted, with an empty cohort\n\
           > draw_cohort 1 --draws 0,0,0: S machines of the pool watch the shard (C1)\n\
           > schedule_splits --draws 3,2,1: no seat is ready, so no drain begins (C4)\n\
@@ -98,53 +98,50 @@ fn tell_step(k: usize) {
           > the same steps with S = 5 and five members: children of 6 and 4 (C2)\n",
         k,
         &[],
-    );
+    )
 }
 
-fn take(k: u64, board: &mut [u64; WORDS]) {
+fn take(rt: &impl Print, k: u64, board: &mut [u64; WORDS]) -> io::Result<()> {
     let before = *board;
     let mut results = [0u64; 2];
-    tell_step(k as usize);
+    tell_step(rt, k as usize)?;
     let answer = make(k, &[3, 2, 1], board, &mut results);
-    trying::tell(answer, &results);
-    diffs::tell(&before, board);
+    trying::tell(rt, answer, &results)?;
+    diffs::tell(rt, &before, board)
 }
 
-fn take_each(board: &mut [u64; WORDS]) {
-    let mut k: u64 = 0;
-    while k < STEPS {
-        take(k, board);
-        k += 1;
+fn take_each(rt: &impl Print, board: &mut [u64; WORDS]) -> io::Result<()> {
+    for k in 0..STEPS {
+        take(rt, k, board)?;
     }
+    Ok(())
 }
 
 fn make_each(board: &mut [u64; WORDS]) {
     let mut results = [0u64; 2];
-    let mut k: u64 = 0;
-    while k < STEPS {
+    for k in 0..STEPS {
         make(k, &[4, 3, 2, 1], board, &mut results);
-        k += 1;
     }
 }
 
 // ---- the story
 
-fn tell_five() {
+fn tell_five(rt: &impl Print) -> io::Result<()> {
     let mut board = [0u64; WORDS];
     load_five(&mut board);
     let before = board;
-    tell_step(11);
+    tell_step(rt, 11)?;
     make_each(&mut board);
-    diffs::tell(&before, &board);
+    diffs::tell(rt, &before, &board)
 }
 
-pub(crate) fn tell() {
+pub(crate) fn tell(rt: &impl Print) -> io::Result<()> {
     let mut board = [0u64; WORDS];
     load_four(&mut board);
-    text(b"The roster before:\n\n");
-    show::tell(&board);
-    take_each(&mut board);
-    text(b"\nThe roster after:\n\n");
-    show::tell(&board);
-    tell_five();
+    text(rt, b"The roster before:\n\n")?;
+    show::tell(rt, &board)?;
+    take_each(rt, &mut board)?;
+    text(rt, b"\nThe roster after:\n\n")?;
+    show::tell(rt, &board)?;
+    tell_five(rt)
 }

@@ -7,6 +7,9 @@ use differences::Difference;
 use sections::{
     BOUNDARIES, COMMITTEES, LEFT, MACHINES, MEMBERS, RESHAPES, RIGHT, ROTATIONS, SEATS, SETTINGS,
 };
+use std::env::Env;
+use std::fs::Files;
+use std::io;
 use templates::number_at;
 
 // ---- the next difference of two tables
@@ -79,11 +82,11 @@ fn put_text(line: &mut [u8; WIDTH], at: usize, k: usize, row: &[u64]) -> usize {
 }
 
 // What stands before it, and its name.
-fn head(before: usize, k: usize, row: &[u64]) {
+fn head(rt: &impl Print, before: usize, k: usize, row: &[u64]) -> io::Result<()> {
     let mut line = [0u8; WIDTH];
     let a = begin(&mut line, before);
     let b = put_text(&mut line, a, k, row);
-    end(&line, b);
+    end(rt, &line, b)
 }
 
 fn put_machine(line: &mut [u8; WIDTH], before: usize, board: &[u64; WORDS], i: usize) -> usize {
@@ -92,80 +95,100 @@ fn put_machine(line: &mut [u8; WIDTH], before: usize, board: &[u64; WORDS], i: u
     put_place(line, b, board, i)
 }
 
-fn machine(before: usize, board: &[u64; WORDS], i: usize) {
+fn machine(rt: &impl Print, before: usize, board: &[u64; WORDS], i: usize) -> io::Result<()> {
     let mut line = [0u8; WIDTH];
     let a = put_machine(&mut line, before, board, i);
-    end(&line, a);
+    end(rt, &line, a)
 }
 
-fn reshape(before: usize, board: &[u64; WORDS], i: usize) {
-    lined::reshape_head(before, board, i);
-    lined::reshape_state(lined::INSIDE, board, i);
+fn reshape(rt: &impl Print, before: usize, board: &[u64; WORDS], i: usize) -> io::Result<()> {
+    lined::reshape_head(rt, before, board, i)?;
+    lined::reshape_state(rt, lined::INSIDE, board, i)?;
     rows_of::each(
+        rt,
         rows_of::INSIDE_SEATS,
         board,
         i,
         facts::count(board, SEATS, i),
-    );
-    lists::list_halves(board, i);
+    )?;
+    lists::list_halves(rt, board, i)
 }
 
-fn committee(before: usize, board: &[u64; WORDS], i: usize) {
-    head(before, 1, facts::row(board, COMMITTEES, 0, i));
-    lists::list(facts::ids(board, MEMBERS, i));
+fn committee(rt: &impl Print, before: usize, board: &[u64; WORDS], i: usize) -> io::Result<()> {
+    head(rt, before, 1, facts::row(board, COMMITTEES, 0, i))?;
+    lists::list(rt, facts::ids(board, MEMBERS, i))
 }
 
-fn boundary(before: usize, board: &[u64; WORDS], i: usize) {
-    head(before, 2, &[]);
-    rows_of::boundary(board, i);
+fn boundary(rt: &impl Print, before: usize, board: &[u64; WORDS], i: usize) -> io::Result<()> {
+    head(rt, before, 2, &[])?;
+    rows_of::boundary(rt, board, i)
 }
 
-fn rotation(before: usize, board: &[u64; WORDS], i: usize) {
-    head(before, 3, &[]);
-    rows_of::rotation(board, i);
+fn rotation(rt: &impl Print, before: usize, board: &[u64; WORDS], i: usize) -> io::Result<()> {
+    head(rt, before, 3, &[])?;
+    rows_of::rotation(rt, board, i)
 }
 
-fn row(which: u64, before: usize, board: &[u64; WORDS], i: usize) {
+fn row(
+    rt: &impl Print,
+    which: u64,
+    before: usize,
+    board: &[u64; WORDS],
+    i: usize,
+) -> io::Result<()> {
     match which {
-        0 => machine(before, board, i),
-        1 => committee(before, board, i),
-        2 => boundary(before, board, i),
-        3 => rotation(before, board, i),
-        _ => reshape(before, board, i),
+        0 => machine(rt, before, board, i),
+        1 => committee(rt, before, board, i),
+        2 => boundary(rt, before, board, i),
+        3 => rotation(rt, before, board, i),
+        _ => reshape(rt, before, board, i),
     }
 }
 
 // ---- a row in both
 
-fn became(board: &[u64; WORDS], i: usize) {
+fn became(rt: &impl Print, board: &[u64; WORDS], i: usize) -> io::Result<()> {
     let mut line = [0u8; WIDTH];
     let a = begin(&mut line, lined::BECAME);
     let b = put_place(&mut line, a, board, i);
-    end(&line, b);
+    end(rt, &line, b)
 }
 
 // On one line where both places fit.
-fn changed_machine(a: &[u64; WORDS], i: usize, b: &[u64; WORDS], j: usize) {
+fn changed_machine(
+    rt: &impl Print,
+    a: &[u64; WORDS],
+    i: usize,
+    b: &[u64; WORDS],
+    j: usize,
+) -> io::Result<()> {
     let mut line = [0u8; WIDTH];
     let c = put_machine(&mut line, lined::INDENTED, a, i);
     if 48 < c {
-        end(&line, c);
-        return became(b, j);
+        end(rt, &line, c)?;
+        return became(rt, b, j);
     }
     let d = put_text(&mut line, c, 4, &[]);
     let e = put_place(&mut line, d, b, j);
-    end(&line, e);
+    end(rt, &line, e)
 }
 
-fn seat_apart(d: Apart, a: &[u64; WORDS], i: usize, b: &[u64; WORDS], j: usize) {
+fn seat_apart(
+    rt: &impl Print,
+    d: Apart,
+    a: &[u64; WORDS],
+    i: usize,
+    b: &[u64; WORDS],
+    j: usize,
+) -> io::Result<()> {
     if d.how == GONE {
-        return lined::seat(lined::SEAT_GONE, a, i, d.k);
+        return lined::seat(rt, lined::SEAT_GONE, a, i, d.k);
     }
     if d.how == NEW {
-        return lined::seat(lined::SEAT_NEW, b, j, d.l);
+        return lined::seat(rt, lined::SEAT_NEW, b, j, d.l);
     }
-    lined::seat(lined::SEAT_WAS, a, i, d.k);
-    lined::seat(lined::SEAT_IS, b, j, d.l);
+    lined::seat(rt, lined::SEAT_WAS, a, i, d.k)?;
+    lined::seat(rt, lined::SEAT_IS, b, j, d.l)
 }
 
 // More than two tables have rows.
@@ -182,125 +205,152 @@ fn next(which: u64, a: &[u64; WORDS], i: usize, b: &[u64; WORDS], j: usize, at: 
 }
 
 // The seats of reshape i of one board and j of the other.
-fn walk_seats(a: &[u64; WORDS], i: usize, b: &[u64; WORDS], j: usize) {
+fn walk_seats(
+    rt: &impl Print,
+    a: &[u64; WORDS],
+    i: usize,
+    b: &[u64; WORDS],
+    j: usize,
+) -> io::Result<()> {
     let mut at = apart_at(SAME, 0, 0);
-    let mut left = MOST_TURNS;
-    while 0 < left {
+    for _ in 0..MOST_TURNS {
         let d = next(SEATS, a, i, b, j, at);
         if d.how == SAME {
-            return;
+            return Ok(());
         }
-        seat_apart(d, a, i, b, j);
+        seat_apart(rt, d, a, i, b, j)?;
         at = past(d);
-        left -= 1;
     }
+    Ok(())
 }
 
 fn same_ids(which: u64, a: &[u64; WORDS], i: usize, b: &[u64; WORDS], j: usize) -> bool {
     differences::same_words(facts::ids(a, which, i), facts::ids(b, which, j))
 }
 
-fn changed_reshape(a: &[u64; WORDS], i: usize, b: &[u64; WORDS], j: usize) {
-    lined::reshape_head(lined::INDENTED, b, j);
-    lined::reshape_state(lined::WAS_INSIDE, a, i);
-    lined::reshape_state(lined::IS_INSIDE, b, j);
-    walk_seats(a, i, b, j);
+fn changed_reshape(
+    rt: &impl Print,
+    a: &[u64; WORDS],
+    i: usize,
+    b: &[u64; WORDS],
+    j: usize,
+) -> io::Result<()> {
+    lined::reshape_head(rt, lined::INDENTED, b, j)?;
+    lined::reshape_state(rt, lined::WAS_INSIDE, a, i)?;
+    lined::reshape_state(rt, lined::IS_INSIDE, b, j)?;
+    walk_seats(rt, a, i, b, j)?;
     if same_ids(LEFT, a, i, b, j) & same_ids(RIGHT, a, i, b, j) {
-        return;
+        return Ok(());
     }
-    lists::list_halves(b, j);
+    lists::list_halves(rt, b, j)
 }
 
-fn changed(which: u64, a: &[u64; WORDS], i: usize, b: &[u64; WORDS], j: usize) {
+fn changed(
+    rt: &impl Print,
+    which: u64,
+    a: &[u64; WORDS],
+    i: usize,
+    b: &[u64; WORDS],
+    j: usize,
+) -> io::Result<()> {
     if which == MACHINES {
-        return changed_machine(a, i, b, j);
+        return changed_machine(rt, a, i, b, j);
     }
     if which == RESHAPES {
-        return changed_reshape(a, i, b, j);
+        return changed_reshape(rt, a, i, b, j);
     }
-    row(which, lined::WAS, a, i);
-    row(which, lined::IS, b, j);
+    row(rt, which, lined::WAS, a, i)?;
+    row(rt, which, lined::IS, b, j)
 }
 
-fn row_apart(which: u64, d: Apart, a: &[u64; WORDS], b: &[u64; WORDS]) {
+fn row_apart(
+    rt: &impl Print,
+    which: u64,
+    d: Apart,
+    a: &[u64; WORDS],
+    b: &[u64; WORDS],
+) -> io::Result<()> {
     if d.how == GONE {
-        return row(which, lined::GONE, a, d.k);
+        return row(rt, which, lined::GONE, a, d.k);
     }
     if d.how == NEW {
-        return row(which, lined::NEW, b, d.l);
+        return row(rt, which, lined::NEW, b, d.l);
     }
-    changed(which, a, d.k, b, d.l);
+    changed(rt, which, a, d.k, b, d.l)
 }
 
 // ---- the whole
 
 // The differences of a table: whether there is one.
-fn walk(which: u64, a: &[u64; WORDS], b: &[u64; WORDS]) -> bool {
+fn walk(rt: &impl Print, which: u64, a: &[u64; WORDS], b: &[u64; WORDS]) -> io::Result<bool> {
     let mut at = apart_at(SAME, 0, 0);
-    let mut left = MOST_TURNS;
-    while 0 < left {
+    for turn in 0..MOST_TURNS {
         let d = next(which, a, 0, b, 0, at);
         if d.how == SAME {
-            return left < MOST_TURNS;
+            return Ok(0 < turn);
         }
-        row_apart(which, d, a, b);
+        row_apart(rt, which, d, a, b)?;
         at = past(d);
-        left -= 1;
     }
-    true
+    Ok(true)
 }
 
-fn tell_setting(k: usize, was: u64, is: u64) {
+fn tell_setting(rt: &impl Print, k: usize, was: u64, is: u64) -> io::Result<()> {
     say::row(
+        rt,
         b"\n  epoch # -> #\n  shard size # -> #\n  drain length # -> #\n  ready wait # -> #\n  shuffle interval # -> #\n  most rotations in flight # -> #\n",
         k,
         &[was, is],
-    );
+    )
 }
 
-fn setting(k: usize, a: &[u64], b: &[u64]) -> u64 {
+fn setting(rt: &impl Print, k: usize, a: &[u64], b: &[u64]) -> io::Result<u64> {
     let was = number_at(a, k);
     let is = number_at(b, k);
     if was == is {
-        return 0;
+        return Ok(0);
     }
-    tell_setting(k, was, is);
-    1
+    tell_setting(rt, k, was, is)?;
+    Ok(1)
 }
 
-fn walk_settings(a: &[u64], b: &[u64]) -> bool {
+fn walk_settings(rt: &impl Print, a: &[u64], b: &[u64]) -> io::Result<bool> {
     let mut n: u64 = 0;
-    let mut k: usize = 1;
-    while k < 7 {
-        n = std::num::wrapping_add_u64(n, setting(k, a, b));
-        k += 1;
+    for k in 1..7 {
+        n = std::num::wrapping_add_u64(n, setting(rt, k, a, b)?);
     }
-    0 < n
+    Ok(0 < n)
 }
 
-pub(crate) fn tell(a: &[u64; WORDS], b: &[u64; WORDS]) {
-    text(b"what changed:\n");
-    let s = walk_settings(facts::table(a, SETTINGS, 0), facts::table(b, SETTINGS, 0));
-    let m = walk(MACHINES, a, b);
-    let c = walk(COMMITTEES, a, b);
-    let d = walk(BOUNDARIES, a, b);
-    let r = walk(ROTATIONS, a, b);
-    let q = walk(RESHAPES, a, b);
+pub(crate) fn tell(rt: &impl Print, a: &[u64; WORDS], b: &[u64; WORDS]) -> io::Result<()> {
+    text(rt, b"what changed:\n")?;
+    let s = walk_settings(
+        rt,
+        facts::table(a, SETTINGS, 0),
+        facts::table(b, SETTINGS, 0),
+    )?;
+    let m = walk(rt, MACHINES, a, b)?;
+    let c = walk(rt, COMMITTEES, a, b)?;
+    let d = walk(rt, BOUNDARIES, a, b)?;
+    let r = walk(rt, ROTATIONS, a, b)?;
+    let q = walk(rt, RESHAPES, a, b)?;
     if !(s | m | c | d | r | q) {
-        text(b"  nothing\n");
+        text(rt, b"  nothing\n")?;
     }
+    Ok(())
 }
 
-pub(crate) fn run() {
-    if args::too_many(4) {
-        return;
+pub(crate) fn run(rt: &(impl Env + Files + Print)) -> io::Result<()> {
+    if args::too_many(rt, 4)? {
+        return Ok(());
     }
     let mut a = [0u64; WORDS];
-    if !files::read_board(2, &mut a) {
-        return;
+    if !files::read_board(rt, 2, &mut a)? {
+        return Ok(());
     }
     let mut b = [0u64; WORDS];
-    if files::read_board(3, &mut b) {
-        tell(&a, &b);
+    if files::read_board(rt, 3, &mut b)? {
+        tell(rt, &a, &b)?;
     }
+    Ok(())
 }

@@ -1,8 +1,10 @@
 // What the command can do.
 use crate::say::all;
+use std::io;
 
-fn tell_commands() {
+fn tell_commands(rt: &impl Print) -> io::Result<()> {
     all(
+        rt,
         b"./roster                      the demo\n\
           ./roster demo                 a built-in board, from a split's admission to its cut\n\
           ./roster show FILE            the roster of a snapshot, as people read it\n\
@@ -16,11 +18,12 @@ fn tell_commands() {
           The steps of `./roster step FILE NAME`, with the numbers and draws that each takes:\n",
         0,
         11,
-    );
+    )
 }
 
-fn tell_steps() {
+fn tell_steps(rt: &impl Print) -> io::Result<()> {
     all(
+        rt,
         b"  tick                              the epoch plus one\n\
           \x20 time_out                          waiting machines at their deadline become ready\n\
           \x20 admit_split TARGET                a split is admitted\n\
@@ -42,10 +45,10 @@ fn tell_steps() {
           nothing is written then, and the command's status is 2.\n",
         0,
         19,
-    );
+    )
 }
 
-pub(crate) fn tell() {
-    tell_commands();
-    tell_steps();
+pub(crate) fn tell(rt: &impl Print) -> io::Result<()> {
+    tell_commands(rt)?;
+    tell_steps(rt)
 }

@@ -4,6 +4,7 @@ use crate::rows_of;
 use crate::say::{WIDTH, end, lay};
 use board::layout::MOST_MACHINES;
 use board::machines;
+use std::io;
 use templates::line_at;
 
 pub const NOTHING: usize = 0;
@@ -60,25 +61,42 @@ pub const SEAT_GONE: usize = 2;
 
 pub const SEAT_NEW: usize = 3;
 
-pub(crate) fn seat(before: usize, board: &[u64; WORDS], i: usize, k: usize) {
+pub(crate) fn seat(
+    rt: &impl Print,
+    before: usize,
+    board: &[u64; WORDS],
+    i: usize,
+    k: usize,
+) -> io::Result<()> {
     rows_of::seat(
+        rt,
         line_at(b"    was \n    is  \n    gone\n    new ", before),
         board,
         i,
         k,
-    );
+    )
 }
 
-pub(crate) fn reshape_head(before: usize, board: &[u64; WORDS], i: usize) {
+pub(crate) fn reshape_head(
+    rt: &impl Print,
+    before: usize,
+    board: &[u64; WORDS],
+    i: usize,
+) -> io::Result<()> {
     let mut line = [0u8; WIDTH];
     let a = begin(&mut line, before);
     let b = rows_of::put_reshape(&mut line, a, board, i);
-    end(&line, b);
+    end(rt, &line, b)
 }
 
-pub(crate) fn reshape_state(before: usize, board: &[u64; WORDS], i: usize) {
+pub(crate) fn reshape_state(
+    rt: &impl Print,
+    before: usize,
+    board: &[u64; WORDS],
+    i: usize,
+) -> io::Result<()> {
     let mut line = [0u8; WIDTH];
     let a = begin(&mut line, before);
     let b = rows_of::put_reshape_state(&mut line, a, board, i);
-    end(&line, b);
+    end(rt, &line, b)
 }

@@ -4,6 +4,7 @@ use crate::say::{WIDTH, end};
 use crate::{facts, say};
 use board::layout::MACHINE_WIDTH;
 use sections::{LEFT, MACHINES, RIGHT};
+use std::io;
 use templates::{fill, number_at};
 
 pub const POOLED: u64 = 0;
@@ -21,12 +22,12 @@ fn add_id(line: &mut [u8; WIDTH], at: usize, id: u64) -> usize {
 }
 
 // An id on the line, or on a new one where the line is full.
-fn put_id(line: &mut [u8; WIDTH], at: usize, id: u64) -> usize {
+fn put_id(rt: &impl Print, line: &mut [u8; WIDTH], at: usize, id: u64) -> io::Result<usize> {
     if at < 79 {
-        return add_id(line, at, id);
+        return Ok(add_id(line, at, id));
     }
-    end(line, at);
-    add_id(line, 4, id)
+    end(rt, line, at)?;
+    Ok(add_id(line, 4, id))
 }
 
 // A line that starts with blanks.
@@ -34,33 +35,31 @@ fn started() -> [u8; WIDTH] {
     [b' '; WIDTH]
 }
 
-fn list_some(ids: &[u64]) {
+fn list_some(rt: &impl Print, ids: &[u64]) -> io::Result<()> {
     let mut line = started();
     let mut at: usize = 4;
-    let mut i: usize = 0;
-    while i < ids.len() {
-        at = put_id(&mut line, at, ids[i]);
-        i += 1;
+    for i in 0..ids.len() {
+        at = put_id(rt, &mut line, at, ids[i])?;
     }
-    end(&line, at);
+    end(rt, &line, at)
 }
 
-pub(crate) fn list(ids: &[u64]) {
+pub(crate) fn list(rt: &impl Print, ids: &[u64]) -> io::Result<()> {
     if ids.len() == 0 {
-        return;
+        return Ok(());
     }
-    list_some(ids);
+    list_some(rt, ids)
 }
 
 // Those that a scheduled split sends to its left and to its right child.
-pub(crate) fn list_halves(board: &[u64; WORDS], i: usize) {
+pub(crate) fn list_halves(rt: &impl Print, board: &[u64; WORDS], i: usize) -> io::Result<()> {
     if facts::count(board, LEFT, i) == 0 {
-        return;
+        return Ok(());
     }
-    say::text(b"  left half:\n");
-    list(facts::ids(board, LEFT, i));
-    say::text(b"  right half:\n");
-    list(facts::ids(board, RIGHT, i));
+    say::text(rt, b"  left half:\n")?;
+    list(rt, facts::ids(board, LEFT, i))?;
+    say::text(rt, b"  right half:\n")?;
+    list(rt, facts::ids(board, RIGHT, i))
 }
 
 // ---- machines by their place: the second word of their row
@@ -69,50 +68,54 @@ pub(crate) fn count_of(board: &[u64; WORDS], kind: u64) -> u64 {
     sections::count_with(facts::table(board, MACHINES, 0), MACHINE_WIDTH, 1, kind) as u64
 }
 
-fn put_machine(line: &mut [u8; WIDTH], at: usize, kind: u64, row: &[u64]) -> usize {
+fn put_machine(
+    rt: &impl Print,
+    line: &mut [u8; WIDTH],
+    at: usize,
+    kind: u64,
+    row: &[u64],
+) -> io::Result<usize> {
     if number_at(row, 1) != kind {
-        return at;
+        return Ok(at);
     }
-    put_id(line, at, number_at(row, 0))
+    put_id(rt, line, at, number_at(row, 0))
 }
 
-fn list_ids(kind: u64, board: &[u64; WORDS]) {
+fn list_ids(rt: &impl Print, kind: u64, board: &[u64; WORDS]) -> io::Result<()> {
     let n = facts::count(board, MACHINES, 0);
     let mut line = started();
     let mut at: usize = 4;
-    let mut i: usize = 0;
-    while i < n {
-        at = put_machine(&mut line, at, kind, facts::row(board, MACHINES, 0, i));
-        i += 1;
+    for i in 0..n {
+        at = put_machine(rt, &mut line, at, kind, facts::row(board, MACHINES, 0, i))?;
     }
-    end(&line, at);
+    end(rt, &line, at)
 }
 
-fn machine(kind: u64, row: &[u64]) {
+fn machine(rt: &impl Print, kind: u64, row: &[u64]) -> io::Result<()> {
     if number_at(row, 1) != kind {
-        return;
+        return Ok(());
     }
     say::row(
+        rt,
         b"  ####################~  watches shard #####~  stamp ##########\n\
           \x20 ####################~  mark ###\n",
         (kind / 4) as usize,
         row,
-    );
+    )
 }
 
-fn list_rows(kind: u64, board: &[u64; WORDS]) {
+fn list_rows(rt: &impl Print, kind: u64, board: &[u64; WORDS]) -> io::Result<()> {
     let n = facts::count(board, MACHINES, 0);
-    let mut i: usize = 0;
-    while i < n {
-        machine(kind, facts::row(board, MACHINES, 0, i));
-        i += 1;
+    for i in 0..n {
+        machine(rt, kind, facts::row(board, MACHINES, 0, i))?;
     }
+    Ok(())
 }
 
 // Those of a kind: ids alone, or a line for each with what it watches or its mark.
-pub(crate) fn kind(kind: u64, board: &[u64; WORDS]) {
+pub(crate) fn kind(rt: &impl Print, kind: u64, board: &[u64; WORDS]) -> io::Result<()> {
     if (kind == WATCHING) | (kind == OTHER) {
-        return list_rows(kind, board);
+        return list_rows(rt, kind, board);
     }
-    list_ids(kind, board);
+    list_ids(rt, kind, board)
 }

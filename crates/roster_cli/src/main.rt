@@ -16,34 +16,38 @@ mod say;
 mod show;
 mod trying;
 
+use std::env::Env;
+use std::io;
+
 const COMMANDS: usize = 8;
 
-fn command() -> usize {
+fn command(rt: &impl Env) -> usize {
     args::which(
+        rt,
         b"demo\nshow\ncheck\nstep\ndiff\nhelp\n--help\n-h",
         COMMANDS,
         1,
     )
 }
 
-fn tell_demo() {
-    if args::too_many(2) {
-        return;
+fn tell_demo(rt: &(impl Env + Print)) -> io::Result<()> {
+    if args::too_many(rt, 2)? {
+        return Ok(());
     }
-    demo::tell();
+    demo::tell(rt)
 }
 
-fn main() {
-    if os::arg_count() < 2 {
-        return demo::tell();
+fn main(rt: HostRuntime) -> io::Result<()> {
+    if args::is_missing(&rt, 1) {
+        return demo::tell(&rt);
     }
-    match command() {
-        0 => tell_demo(),
-        1 => show::run(),
-        2 => checks::run(),
-        3 => trying::run(),
-        4 => diffs::run(),
-        5 | 6 | 7 => help::tell(),
-        _ => args::mistake(1, say::NO_SUCH_COMMAND),
+    match command(&rt) {
+        0 => tell_demo(&rt),
+        1 => show::run(&rt),
+        2 => checks::run(&rt),
+        3 => trying::run(&rt),
+        4 => diffs::run(&rt),
+        5 | 6 | 7 => help::tell(&rt),
+        _ => args::mistake(&rt, 1, say::NO_SUCH_COMMAND),
     }
 }

@@ -11,6 +11,7 @@ use lines::put_text;
 use reshapes::{fields, seats as cohort};
 use row_lines::Progress;
 use shards::rotations;
+use std::io;
 use types::{BlockHeight, Epoch, ShardId};
 
 // Which rows `each` tells.
@@ -18,55 +19,62 @@ pub const INSIDE_MEMBERS: u64 = 0;
 
 pub const INSIDE_SEATS: u64 = 1;
 
-fn member_without(id: u64) {
+fn member_without(rt: &impl Print, id: u64) -> io::Result<()> {
     say::row(
+        rt,
         b"######################  not here: it has no record",
         0,
         &[id],
-    );
+    )
 }
 
-fn member(board: &[u64; WORDS], j: usize, k: usize) {
+fn member(rt: &impl Print, board: &[u64; WORDS], j: usize, k: usize) -> io::Result<()> {
     if MOST_COMMITTEES <= j {
-        return;
+        return Ok(());
     }
     if MOST_MEMBERS <= k {
-        return;
+        return Ok(());
     }
     let id = committees::member_at(board, j, k);
     if !facts::has_record(board, id) {
-        return member_without(id.0);
+        return member_without(rt, id.0);
     }
     let shard = committees::shard_at(board, j);
     let place = rows::place_of(board, id);
     let mut line = [0u8; WIDTH];
     let a = row_lines::put_member_row(&mut line, 0, shard, id, place, settings::ready_wait(board));
-    end(&line, a);
+    end(rt, &line, a)
 }
 
 // Eight bytes stand before it.
-pub(crate) fn seat(before: &[u8], board: &[u64; WORDS], i: usize, k: usize) {
+pub(crate) fn seat(
+    rt: &impl Print,
+    before: &[u8],
+    board: &[u64; WORDS],
+    i: usize,
+    k: usize,
+) -> io::Result<()> {
     if MOST_RESHAPES <= i {
-        return;
+        return Ok(());
     }
     if MOST_SEATS <= k {
-        return;
+        return Ok(());
     }
     let seat = cohort::at(board, i, k);
     let mut line = [0u8; WIDTH];
     let a = put_text(&mut line, 0, before);
     let b = row_lines::put_seat(&mut line, a, seat.id, seat.child, seat.ready);
-    end(&line, b);
+    end(rt, &line, b)
 }
 
-pub(crate) fn rotation(board: &[u64; WORDS], i: usize) {
+pub(crate) fn rotation(rt: &impl Print, board: &[u64; WORDS], i: usize) -> io::Result<()> {
     if MOST_ROTATIONS <= i {
-        return;
+        return Ok(());
     }
     let r = rotations::at(board, i);
     let mut line = [0u8; WIDTH];
     let a = row_lines::put_rotation(&mut line, 0, r.shard, r.victim, r.entrant, r.opened);
-    end(&line, a);
+    end(rt, &line, a)
 }
 
 // Word k of the boundary at i.
@@ -80,7 +88,7 @@ fn bound_word(board: &[u64; WORDS], i: usize, k: usize) -> u64 {
     board[BOUNDS_AT + 1 + i * BOUNDARY_WIDTH + k]
 }
 
-pub(crate) fn boundary(board: &[u64; WORDS], i: usize) {
+pub(crate) fn boundary(rt: &impl Print, board: &[u64; WORDS], i: usize) -> io::Result<()> {
     let shard = ShardId(bound_word(board, i, 0));
     let height = BlockHeight(bound_word(board, i, 1));
     let formed = Epoch(bound_word(board, i, 2));
@@ -91,12 +99,13 @@ pub(crate) fn boundary(board: &[u64; WORDS], i: usize) {
     let admitted = Epoch(bound_word(board, i, 7));
     let mut line = [0u8; WIDTH];
     let a = row_lines::put_boundary(&mut line, 0, shard, height, formed, live);
-    end(&line, a);
+    end(rt, &line, a)?;
     let mut more = [0u8; WIDTH];
     let b = row_lines::put_ends(&mut more, 0, ending, terminal, admitting, admitted);
     if ending | admitting {
-        end(&more, b);
+        end(rt, &more, b)?;
     }
+    Ok(())
 }
 
 pub(crate) fn put_reshape(
@@ -137,18 +146,23 @@ pub(crate) fn put_reshape_state(
     row_lines::put_progress(line, at, progress)
 }
 
-fn row(what: u64, board: &[u64; WORDS], j: usize, i: usize) {
+fn row(rt: &impl Print, what: u64, board: &[u64; WORDS], j: usize, i: usize) -> io::Result<()> {
     if what == INSIDE_MEMBERS {
-        return member(board, j, i);
+        return member(rt, board, j, i);
     }
-    seat(b"        ", board, j, i);
+    seat(rt, b"        ", board, j, i)
 }
 
 // So many rows inside row j.
-pub(crate) fn each(what: u64, board: &[u64; WORDS], j: usize, n: usize) {
-    let mut i: usize = 0;
-    while i < n {
-        row(what, board, j, i);
-        i += 1;
+pub(crate) fn each(
+    rt: &impl Print,
+    what: u64,
+    board: &[u64; WORDS],
+    j: usize,
+    n: usize,
+) -> io::Result<()> {
+    for i in 0..n {
+        row(rt, what, board, j, i)?;
     }
+    Ok(())
 }

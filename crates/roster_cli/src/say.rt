@@ -1,26 +1,26 @@
 // What is written to standard output: lines of at most 100 bytes, and mistakes. Texts stand in tables of lines, and are named
 // by their number there: the prover takes one long text more lightly than many short ones.
-use libc::STDOUT_FILENO;
+use std::io;
 use templates::{fill, line_at};
 
 pub const WIDTH: usize = 100;
 
-pub(crate) fn text(words: &[u8]) {
-    io::write_all(STDOUT_FILENO, words);
+pub(crate) fn text(rt: &impl Print, words: &[u8]) -> io::Result<()> {
+    rt.write_all(words)
 }
 
-fn laid(line: &[u8], at: usize) {
-    text(lines::said(line, at));
+fn laid(rt: &impl Print, line: &[u8], at: usize) -> io::Result<()> {
+    text(rt, lines::said(line, at))
 }
 
-fn close(line: &[u8], at: usize) {
-    laid(line, at);
-    text(b"\n");
+fn close(rt: &impl Print, line: &[u8], at: usize) -> io::Result<()> {
+    laid(rt, line, at)?;
+    text(rt, b"\n")
 }
 
 // What is laid of the line, and a line end.
-pub(crate) fn end(line: &[u8; WIDTH], at: usize) {
-    close(line, at);
+pub(crate) fn end(rt: &impl Print, line: &[u8; WIDTH], at: usize) -> io::Result<()> {
+    close(rt, line, at)
 }
 
 // Line k of the texts, with its numbers.
@@ -34,19 +34,18 @@ pub(crate) fn lay(
     fill(line, at, line_at(texts, k), numbers)
 }
 
-pub(crate) fn row(texts: &[u8], k: usize, numbers: &[u64]) {
+pub(crate) fn row(rt: &impl Print, texts: &[u8], k: usize, numbers: &[u64]) -> io::Result<()> {
     let mut line = [0u8; WIDTH];
     let n = lay(&mut line, 0, texts, k, numbers);
-    end(&line, n);
+    end(rt, &line, n)
 }
 
 // The lines from k to before e.
-pub(crate) fn all(texts: &[u8], k: usize, e: usize) {
-    let mut i = k;
-    while i < e {
-        row(texts, i, &[]);
-        i += 1;
+pub(crate) fn all(rt: &impl Print, texts: &[u8], k: usize, e: usize) -> io::Result<()> {
+    for i in k..e {
+        row(rt, texts, i, &[])?;
     }
+    Ok(())
 }
 
 // ---- mistakes
@@ -117,23 +116,23 @@ fn put_mistake(line: &mut [u8; WIDTH], which: usize, n: u64) -> usize {
     )
 }
 
-fn tell_mistake(line: &[u8; WIDTH], at: usize, word: &[u8]) {
-    laid(line, at);
-    text(word);
-    text(b"\n");
+fn tell_mistake(rt: &impl Print, line: &[u8; WIDTH], at: usize, word: &[u8]) -> io::Result<()> {
+    laid(rt, line, at)?;
+    text(rt, word)?;
+    text(rt, b"\n")
 }
 
 // The last line of a run that wrote nothing: what is wrong, with a number, and with which word of the clerk's.
-pub(crate) fn mistake_at(which: usize, n: u64, word: &[u8]) {
+pub(crate) fn mistake_at(rt: &impl Print, which: usize, n: u64, word: &[u8]) -> io::Result<()> {
     let mut line = [0u8; WIDTH];
     let at = put_mistake(&mut line, which, n);
-    tell_mistake(&line, at, word);
+    tell_mistake(rt, &line, at, word)
 }
 
-pub(crate) fn mistake(which: usize, word: &[u8]) {
-    mistake_at(which, 0, word);
+pub(crate) fn mistake(rt: &impl Print, which: usize, word: &[u8]) -> io::Result<()> {
+    mistake_at(rt, which, 0, word)
 }
 
-pub(crate) fn mistake_alone(which: usize) {
-    mistake_at(which, 0, &[]);
+pub(crate) fn mistake_alone(rt: &impl Print, which: usize) -> io::Result<()> {
+    mistake_at(rt, which, 0, &[])
 }

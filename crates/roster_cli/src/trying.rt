@@ -1,10 +1,13 @@
 // `step`: a step on a snapshot.
-ghost use Rattle.io.specs.Counts.{IsPrefixLen};
+ghost use Rattle.std.specs.Prelude.{◌≡◌, ◌≤◌, length, take};
 
 use crate::files::WORDS;
 use crate::say::{WIDTH, end, lay, text};
 use crate::{args, calls, diffs, files, say};
 use numerals::{Numeral, Parsed};
+use std::env::Env;
+use std::fs::Files;
+use std::io;
 
 const MOST_DRAWS: usize = 4096;
 
@@ -42,7 +45,7 @@ fn draws_room() -> [u64; MOST_DRAWS] {
 }
 
 fn draws_within(n: usize, room: &[u64]) -> usize
-    ensures { IsPrefixLen result room.now }
+    ensures { (result ≤ length room.now) × (result ≡ length (take result room.now)) }
 {
     if room.len() < n {
         return room.len();
@@ -59,34 +62,37 @@ fn numbers_after(written: &[u8], draws: &mut [u64], n: usize) -> Parsed {
 }
 
 // How many draws there are with those just read; a mistake is told.
-fn counted(read: Parsed, n: usize, word: &[u8]) -> usize {
+fn counted(rt: &impl Print, read: Parsed, n: usize, word: &[u8]) -> io::Result<usize> {
     match read {
-        Parsed::Read(more) => std::num::wrapping_add_usize(n, more),
+        Parsed::Read(more) => Ok(std::num::wrapping_add_usize(n, more)),
         Parsed::Stopped(_) => {
-            say::mistake(say::DRAWS_NO_NUMBER, word);
-            NOT_TAKEN
+            say::mistake(rt, say::DRAWS_NO_NUMBER, word)?;
+            Ok(NOT_TAKEN)
         }
         Parsed::TooMany => {
-            say::mistake(say::TOO_MANY_DRAWS, word);
-            NOT_TAKEN
+            say::mistake(rt, say::TOO_MANY_DRAWS, word)?;
+            Ok(NOT_TAKEN)
         }
     }
 }
 
-fn add_file(path: &[u8], draws: &mut [u64; MOST_DRAWS], n: usize) -> usize {
-    let fd = files::open(path);
-    if fd < 0 {
-        return NOT_TAKEN;
-    }
-    let mut room = io::large_buffer();
-    let k = io::read_full(fd, &mut room);
-    libc::close(fd);
+fn add_file(
+    rt: &(impl Files + Print),
+    path: &[u8],
+    draws: &mut [u64; MOST_DRAWS],
+    n: usize,
+) -> io::Result<usize> {
+    let Some(mut file) = files::open(rt, path)? else {
+        return Ok(NOT_TAKEN);
+    };
+    let mut room = files::room();
+    let k = files::read_full(&mut file, &mut room);
     if k == 65536 {
-        say::mistake(say::LONG_DRAWS, path);
-        return NOT_TAKEN;
+        say::mistake(rt, say::LONG_DRAWS, path)?;
+        return Ok(NOT_TAKEN);
     }
     let read = numbers_after(&room[..k], draws, n);
-    counted(read, n, path)
+    counted(rt, read, n, path)
 }
 
 fn is_written_out(word: &[u8]) -> bool {
@@ -96,24 +102,34 @@ fn is_written_out(word: &[u8]) -> bool {
     (b'0' <= word[0]) & (word[0] <= b'9')
 }
 
-fn add_written(word: &[u8], draws: &mut [u64; MOST_DRAWS], n: usize) -> usize {
+fn add_written(
+    rt: &(impl Files + Print),
+    word: &[u8],
+    draws: &mut [u64; MOST_DRAWS],
+    n: usize,
+) -> io::Result<usize> {
     if is_written_out(word) {
         let read = numbers_after(word, draws, n);
-        return counted(read, n, word);
+        return counted(rt, read, n, word);
     }
-    add_file(word, draws, n)
+    add_file(rt, word, draws, n)
 }
 
 // The draws that the word at i says, or the file that it names.
-fn add_draws(i: usize, draws: &mut [u64; MOST_DRAWS], n: usize) -> usize {
-    let mut room = io::buffer();
-    let k = os::arg(i, &mut room);
-    add_written(&room[..k], draws, n)
+fn add_draws(
+    rt: &(impl Env + Files + Print),
+    i: usize,
+    draws: &mut [u64; MOST_DRAWS],
+    n: usize,
+) -> io::Result<usize> {
+    let mut room = args::room();
+    let k = args::word(rt, i, &mut room);
+    add_written(rt, &room[..k], draws, n)
 }
 
 // The number of its option: 0 where the word at i names none.
-fn option_at(i: usize) -> u64 {
-    match args::which(b"--draws\n--out", 2, i) {
+fn option_at(rt: &impl Env, i: usize) -> u64 {
+    match args::which(rt, b"--draws\n--out", 2, i) {
         0 => DRAWS,
         1 => OUT,
         _ => NOTHING,
@@ -121,55 +137,69 @@ fn option_at(i: usize) -> u64 {
 }
 
 // With the word at i, which is no option's name.
-fn with_word(o: Options, i: usize, draws: &mut [u64; MOST_DRAWS]) -> Options {
+fn with_word(
+    rt: &(impl Env + Files + Print),
+    o: Options,
+    i: usize,
+    draws: &mut [u64; MOST_DRAWS],
+) -> io::Result<Options> {
     if o.of == DRAWS {
-        let n = add_draws(i, draws, o.draws);
-        return with_options(n != NOT_TAKEN, n, o.out, DRAWS);
+        let n = add_draws(rt, i, draws, o.draws)?;
+        return Ok(with_options(n != NOT_TAKEN, n, o.out, DRAWS));
     }
     if o.of == OUT {
-        return with_options(true, o.draws, i, NOTHING);
+        return Ok(with_options(true, o.draws, i, NOTHING));
     }
-    args::mistake(i, say::ONE_TOO_MANY);
-    with_options(false, 0, 0, NOTHING)
+    args::mistake(rt, i, say::ONE_TOO_MANY)?;
+    Ok(with_options(false, 0, 0, NOTHING))
 }
 
-fn with_next(o: Options, i: usize, draws: &mut [u64; MOST_DRAWS]) -> Options {
-    let of = option_at(i);
+fn with_next(
+    rt: &(impl Env + Files + Print),
+    o: Options,
+    i: usize,
+    draws: &mut [u64; MOST_DRAWS],
+) -> io::Result<Options> {
+    let of = option_at(rt, i);
     if of == NOTHING {
-        return with_word(o, i, draws);
+        return with_word(rt, o, i, draws);
     }
-    with_options(true, o.draws, o.out, of)
+    Ok(with_options(true, o.draws, o.out, of))
 }
 
 // The words from `from` on; a mistake is told.
-fn taken(from: usize, draws: &mut [u64; MOST_DRAWS]) -> Options {
-    let count = os::arg_count();
+fn taken(
+    rt: &(impl Env + Files + Print),
+    from: usize,
+    draws: &mut [u64; MOST_DRAWS],
+) -> io::Result<Options> {
     let mut o = with_options(true, 0, 0, NOTHING);
-    let mut i = from;
-    while i < count {
-        o = with_next(o, i, draws);
-        if !o.good {
-            return o;
+    for i in from..usize::MAX {
+        if args::is_missing(rt, i) {
+            break;
         }
-        i += 1;
+        o = with_next(rt, o, i, draws)?;
+        if !o.good {
+            return Ok(o);
+        }
     }
     if o.of == OUT {
-        say::mistake_alone(say::OUT_MISSING);
-        return with_options(false, 0, 0, NOTHING);
+        say::mistake_alone(rt, say::OUT_MISSING)?;
+        return Ok(with_options(false, 0, 0, NOTHING));
     }
-    o
+    Ok(o)
 }
 
 // The number at i where the step takes so many; a mistake is told.
-fn number(i: usize, wanted: bool) -> Numeral {
+fn number(rt: &(impl Env + Print), i: usize, wanted: bool) -> io::Result<Numeral> {
     if !wanted {
-        return Numeral::Number(0);
+        return Ok(Numeral::Number(0));
     }
-    if args::is_missing(i) {
-        args::mistake(3, say::NUMBER_MISSING);
-        return Numeral::NotANumber;
+    if args::is_missing(rt, i) {
+        args::mistake(rt, 3, say::NUMBER_MISSING)?;
+        return Ok(Numeral::NotANumber);
     }
-    args::number(i)
+    args::number(rt, i)
 }
 
 fn put_results(line: &mut [u8; WIDTH], k: usize, numbers: &[u64]) -> usize {
@@ -186,32 +216,38 @@ fn put_answer(line: &mut [u8; WIDTH], at: usize, answer: u64) -> usize {
     answers::put_answer(line, at, answer)
 }
 
-pub(crate) fn tell(answer: u64, results: &[u64; 2]) {
+pub(crate) fn tell(rt: &impl Print, answer: u64, results: &[u64; 2]) -> io::Result<()> {
     let mut line = [0u8; WIDTH];
     let a = put_results(&mut line, 0, &[answer]);
     let b = put_answer(&mut line, a, answer);
-    end(&line, b);
+    end(rt, &line, b)?;
     let mut counts = [0u8; WIDTH];
     let c = put_results(&mut counts, 1, results);
-    end(&counts, c);
+    end(rt, &counts, c)
 }
 
 // Written where the step is done, and where a step over several shards was refused at one: those before it stand.
-fn keep(step: u64, answer: u64, out: usize, board: &[u64; WORDS]) {
+fn keep(
+    rt: &(impl Env + Files + Print),
+    step: u64,
+    answer: u64,
+    out: usize,
+    board: &[u64; WORDS],
+) -> io::Result<()> {
     if out == 0 {
-        return;
+        return Ok(());
     }
     if (answer != 0) & !step_names::is_batch(step) {
-        text(b"refused: nothing is written\n");
-        return;
+        return text(rt, b"refused: nothing is written\n");
     }
-    let mut path = io::buffer();
-    let n = os::arg(out, &mut path);
-    if files::write_board(&path[..n], board) {
-        text(b"written: ");
-        text(&path[..n]);
-        text(b"\n");
+    let mut path = args::room();
+    let n = args::word(rt, out, &mut path);
+    if files::write_board(rt, &path[..n], board)? {
+        text(rt, b"written: ")?;
+        text(rt, &path[..n])?;
+        text(rt, b"\n")?;
     }
+    Ok(())
 }
 
 // What a step is asked with.
@@ -224,11 +260,16 @@ pub struct Asked {
     pub out: usize,
 }
 
-fn make(asked: Asked, name: &[u8], draws: &[u64], board: &mut [u64; WORDS]) {
+fn make(
+    rt: &(impl Env + Files + Print),
+    asked: Asked,
+    name: &[u8],
+    draws: &[u64],
+    board: &mut [u64; WORDS],
+) -> io::Result<()> {
     let n = draws_within(asked.draws, draws);
     if (0 < n) & !step_names::takes_draws(asked.step) {
-        say::mistake(say::NO_DRAWS_TAKEN, name);
-        return;
+        return say::mistake(rt, say::NO_DRAWS_TAKEN, name);
     }
     let before = *board;
     let mut results = [0u64; 2];
@@ -240,28 +281,39 @@ fn make(asked: Asked, name: &[u8], draws: &[u64], board: &mut [u64; WORDS]) {
         &draws[..n],
         &mut results,
     );
-    tell(answer, &results);
-    diffs::tell(&before, board);
-    keep(asked.step, answer, asked.out, board);
+    tell(rt, answer, &results)?;
+    diffs::tell(rt, &before, board)?;
+    keep(rt, asked.step, answer, asked.out, board)
 }
 
 // The draws go by an array here, whose length the caller need not show.
-fn make_with(asked: Asked, name: &[u8], draws: &[u64; MOST_DRAWS], board: &mut [u64; WORDS]) {
-    make(asked, name, draws, board);
+fn make_with(
+    rt: &(impl Env + Files + Print),
+    asked: Asked,
+    name: &[u8],
+    draws: &[u64; MOST_DRAWS],
+    board: &mut [u64; WORDS],
+) -> io::Result<()> {
+    make(rt, asked, name, draws, board)
 }
 
-fn take(step: u64, name: &[u8], board: &mut [u64; WORDS]) {
+fn take(
+    rt: &(impl Env + Files + Print),
+    step: u64,
+    name: &[u8],
+    board: &mut [u64; WORDS],
+) -> io::Result<()> {
     let k = step_names::numbers_of(step);
-    let Numeral::Number(first) = number(4, 1 <= k) else {
-        return;
+    let Numeral::Number(first) = number(rt, 4, 1 <= k)? else {
+        return Ok(());
     };
-    let Numeral::Number(second) = number(5, 2 <= k) else {
-        return;
+    let Numeral::Number(second) = number(rt, 5, 2 <= k)? else {
+        return Ok(());
     };
     let mut draws = draws_room();
-    let o = taken(std::num::wrapping_add_usize(4, k), &mut draws);
+    let o = taken(rt, std::num::wrapping_add_usize(4, k), &mut draws)?;
     if !o.good {
-        return;
+        return Ok(());
     }
     let asked = Asked {
         step: step,
@@ -270,24 +322,22 @@ fn take(step: u64, name: &[u8], board: &mut [u64; WORDS]) {
         draws: o.draws,
         out: o.out,
     };
-    make_with(asked, name, &draws, board);
+    make_with(rt, asked, name, &draws, board)
 }
 
-pub(crate) fn run() {
+pub(crate) fn run(rt: &(impl Env + Files + Print)) -> io::Result<()> {
     let mut board = [0u64; WORDS];
-    if !files::read_board(2, &mut board) {
-        return;
+    if !files::read_board(rt, 2, &mut board)? {
+        return Ok(());
     }
-    if args::is_missing(3) {
-        say::mistake_alone(say::STEP_MISSING);
-        return;
+    if args::is_missing(rt, 3) {
+        return say::mistake_alone(rt, say::STEP_MISSING);
     }
-    let mut name = io::buffer();
-    let n = os::arg(3, &mut name);
+    let mut name = args::room();
+    let n = args::word(rt, 3, &mut name);
     let step = step_names::step_named(&name[..n]);
     if step == 0 {
-        say::mistake(say::NO_SUCH_STEP, &name[..n]);
-        return;
+        return say::mistake(rt, say::NO_SUCH_STEP, &name[..n]);
     }
-    take(step, &name[..n], &mut board);
+    take(rt, step, &name[..n], &mut board)
 }
