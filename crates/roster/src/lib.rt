@@ -119,12 +119,7 @@ pub fn roster_mark_seat_ready(
     tell(told, results)
 }
 
-pub fn roster_mark_quiet(
-    board: &mut [u64],
-    target: u64,
-    side: u64,
-    results: &mut [u64; 2],
-) -> u64
+pub fn roster_mark_quiet(board: &mut [u64], target: u64, side: u64, results: &mut [u64; 2]) -> u64
     ensures { ExportedStep (mark_quiet target side) board.old board.new result results.new }
 {
     if !wellformed::well_formed(board) {
@@ -134,12 +129,7 @@ pub fn roster_mark_quiet(
     tell(told, results)
 }
 
-pub fn roster_leave(
-    board: &mut [u64],
-    machine: u64,
-    draws: &[u64],
-    results: &mut [u64; 2],
-) -> u64
+pub fn roster_leave(board: &mut [u64], machine: u64, draws: &[u64], results: &mut [u64; 2]) -> u64
     ensures { ExportedStep (leave machine draws.now) board.old board.new result results.new }
 {
     if !wellformed::well_formed(board) {
@@ -234,11 +224,7 @@ pub fn roster_lapse(board: &mut [u64], target: u64, results: &mut [u64; 2]) -> u
     tell(told, results)
 }
 
-pub fn roster_schedule_splits(
-    board: &mut [u64],
-    draws: &[u64],
-    results: &mut [u64; 2],
-) -> u64
+pub fn roster_schedule_splits(board: &mut [u64], draws: &[u64], results: &mut [u64; 2]) -> u64
     ensures { ExportedStep (schedule_splits draws.now) board.old board.new result results.new }
 {
     if !wellformed::well_formed(board) {
