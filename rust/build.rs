@@ -32,8 +32,20 @@ fn take(from: &Path, archive: &Path) {
 /// Proves the Rattle beside this crate wherever it has changed, and compiles it.
 fn make(archive: &Path) {
     let repository = PathBuf::from(given("CARGO_MANIFEST_DIR")).join("..");
-    for part in ["crates", "crates.txt", "tools/native-lib"] {
+    for part in ["crates.txt", "tools/native-lib"] {
         println!("cargo:rerun-if-changed={}", repository.join(part).display());
+    }
+    // a crate's sources alone: beside them stands what is made of them
+    for folder in fs::read_dir(repository.join("crates"))
+        .expect("the repository has crates")
+        .flatten()
+    {
+        for part in ["src", "specs", "proofs"] {
+            let sources = folder.path().join(part);
+            if sources.is_dir() {
+                println!("cargo:rerun-if-changed={}", sources.display());
+            }
+        }
     }
     let made = Command::new(repository.join("tools/native-lib"))
         .arg(archive)
