@@ -85,7 +85,7 @@ impl<'a> DrawReader<'a> {
     }
 }
 
-// The first draw of a list, by a reader. Whoever calls this needs no walk.
+// The first draw of a list, by a reader.
 pub fn first_draw(draws: &[u64], most: u64) -> DrawAt
     ensures { result ≡ draw_at draws.now 0 most }
 {

@@ -7,11 +7,11 @@ use Rattle.rules.specs.Board.{Board}
 use Rattle.board.specs.Held.{Holds, no_committee}
 use Rattle.cohorts.proofs.draw.none_joined.Given as goal
 
-abbrev pub isNew : ℕ → Board → ℕ → Bool
-isNew j b x = not (has x (get_or b.committees j no_committee).val)
+abbrev pub is_new : ℕ → Board → ℕ → Bool
+is_new j b x = not (has x (get_or b.committees j no_committee).val)
 
 abbrev pub invariant-loop-k : goal.invariant-loop-k
-invariant-loop-k l = (l.k ≤ length l.ids) × ((b : Board) → Holds l.board b → l.j < length b.committees → every (isNew l.j b) (drop l.k l.ids) ≡ every (isNew l.j b) l.ids)
+invariant-loop-k l = (l.k ≤ length l.ids) × ((b : Board) → Holds l.board b → l.j < length b.committees → every (is_new l.j b) (drop l.k l.ids) ≡ every (is_new l.j b) l.ids)
 
 abbrev pub decreases-loop-k : goal.decreases-loop-k
 decreases-loop-k l = length l.ids - l.k
