@@ -25,7 +25,9 @@ use Rattle.board.proofs.Fitting.{held_as}
 use Rattle.reshapes.proofs.SeatMoves.{seats_in_row}
 use Rattle.steps.specs.Inner.{outcome, Step}
 use Rattle.sampling.specs.declared.Reader.{Reader}
-use Rattle.gathering.specs.Gathered.{Drew, Lacks, lacking, large}
+use Rattle.sampling.specs.Reads.{Read, no_draw, answer_to}
+use Rattle.sampling.specs.declared.DrawError.{DrawError}
+use Rattle.sampling.proofs.Failing.{drawn_fails}
 use Rattle.keepers.specs.Kept.{seats_of}
 use Rattle.families.specs.Faults.{Grants}
 use Rattle.admissions.specs.Granted.{admits_kept, merge_granted}
@@ -76,11 +78,6 @@ module _ (t : Shard) (b : Board) (after : List ℕ) (r : Outcome) where
 
 -- ---- a merge: its faults, then its draws
 
-drawn_lacks : {A : Type 0} (d : Drawn A) (go : A → List ℕ → Turn) (a : Answer) → Lacks d a → drawn d go ≡ refused a
-unfolding drawn
-drawn_lacks d go a lacking = refl
-drawn_lacks d go a large = refl
-
 module _ (t : Shard) (draws : List ℕ) (b : Board) (after : List ℕ) (r : Outcome) where
   pub merge_refused : (a : Answer) → ((turn : Turn) → checked (admission_faults merge t b) turn ≡ refused a) → Holds after b → r ≡ outcome a 0 0 → Step (admit_merge t draws) b after r
   unfolding admit_merge
@@ -90,14 +87,14 @@ module _ (t : Shard) (draws : List ℕ) (b : Board) (after : List ℕ) (r : Outc
   unfolding admit_merge
   merge_passed g s = step_as (admit_merge t draws) (merge_granted t draws) b after r (ap (alone draws b) (g.passes _)) s
 
-  pub merge_lacks : (a : Answer) → Lacks (draw_keepers t b draws) a → Holds after b → r ≡ outcome a 0 0 → Step (merge_granted t draws) b after r
-  merge_lacks a l h q = turn_refused (merge_granted t draws) b draws after _ refl r a (drawn_lacks _ _ a l) h q
+  pub merge_fails : (e : DrawError) → draw_keepers t b draws ≡ no_draw e → Holds after b → r ≡ outcome (answer_to e) 0 0 → Step (merge_granted t draws) b after r
+  merge_fails e l h q = turn_refused (merge_granted t draws) b draws after _ refl r (answer_to e) (drawn_fails _ _ e l) h q
 
-  pub merge_drew : (ids : List Id) (n m : ℕ) (left : Reader) → Drew draws (draw_keepers t b draws) (seats_of t ids n m) left → Step (admits_kept t ids n m left.at draws) b after r
+  pub merge_drew : (ids : List Id) (n m : ℕ) (left : Reader) → Read draws (draw_keepers t b draws) (seats_of t ids n m) left → Step (admits_kept t ids n m left.at draws) b after r
       → Step (merge_granted t draws) b after r
   unfolding drawn
   merge_drew ids n m left d s =
-      step_as (merge_granted t draws) (admits_kept t ids n m left.at draws) b after r (ap (λ (x : Drawn (Table Seat)). alone draws b (drawn x (λ keepers left. admit merge t (length keepers) keepers left b))) d.drawn) s
+      step_as (merge_granted t draws) (admits_kept t ids n m left.at draws) b after r (ap (λ (x : Drawn (Table Seat)). alone draws b (drawn x (λ keepers left. admit merge t (length keepers) keepers left b))) d.drew) s
 
 -- ---- its keepers
 

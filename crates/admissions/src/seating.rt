@@ -41,8 +41,8 @@ fn put_seat(board: &mut [u64], i: usize, child: ShardId, id: ValidatorId)
         Holds board.new (with_seats_at i (put id.0 (new_seat child.0) (get_or b.reshapes i no_reshape).val.seats) b) }
 {
     let seat = Seat {
-        id: id,
-        child: child,
+        id,
+        child,
         ready: false,
     };
     let k = seats::place_of(board, i, id);
@@ -53,9 +53,7 @@ fn put_seat(board: &mut [u64], i: usize, child: ShardId, id: ValidatorId)
         seats::open(board, i, k, seat);
         return;
     }
-    let there = seats::at(board, i, k);
-    let own = there.id;
-    if own.0 == id.0 {
+    if seats::at(board, i, k).id == id {
         seats::put(board, i, k, seat);
         return;
     }
@@ -69,9 +67,7 @@ pub fn seat_all(board: &mut [u64], i: usize, child: ShardId, ids: &[u64])
         length (get_or b.reshapes i no_reshape).val.seats + length ids.now ≤ most_seats →
         Holds board.new (with_seats_at i (seat_all child.0 ids.now (get_or b.reshapes i no_reshape).val.seats) b) }
 {
-    let mut k: usize = 0;
-    while k < ids.len() {
+    for k in 0..ids.len() {
         put_seat(board, i, child, ValidatorId(ids[k]));
-        k += 1;
     }
 }

@@ -1,4 +1,5 @@
 -- A step without draws over several shards, listed in scratch before the first turn.
+use Rattle.std.specs.Prelude.{Ok, Err}
 use Prim.Native.Nat.{ℕ, ◌+◌, ◌≤◌, ◌<◌}
 use mathlib.Core.Path.{◌≡◌, ap, sym, ◌∙◌}
 use mathlib.Core.List.{List, []}
@@ -18,8 +19,7 @@ use Rattle.rules.proofs.Draws.{ReadsTurn}
 use Rattle.rules.proofs.KeptBoard.{Good, good_of_lem, of_good}
 use Rattle.board.specs.Held.{Holds}
 use Rattle.sampling.specs.declared.Reader.{Reader}
-use Rattle.pool.specs.Told.{TellsTurn}
-use Rattle.pool.specs.declared.Turned.TheVariants.{Done, Refused}
+use Rattle.pool.specs.Told.{TurnTells}
 use Rattle.steps.specs.Inner.{outcome, Step}
 use Rattle.batches.specs.Underway.{Underway}
 use Rattle.batches.proofs.Law.{begins, goes_on_lem, stops, ends}
@@ -43,12 +43,12 @@ module _ (turn : Shard → List ℕ → Board → Turn) (reads : (s : Shard) (c 
       its_shard : get_or listed i 0 ≡ get_or targets i 0
       its_shard = sym (get_or-take n listed i 0 l) ∙ ap (λ (z : List ℕ). get_or z i 0) e
 
-      pub one_done : (k : ℕ) (left : Reader) → left.at ≡ 0 → ((c : Board) → Holds now c → well_formed c ≡ true → TellsTurn [] after c (turn (get_or listed i 0) [] c) (Done k left))
+      pub one_done : (k : ℕ) (left : Reader) → left.at ≡ 0 → ((c : Board) → Holds now c → well_formed c ≡ true → TurnTells [] after c (turn (get_or listed i 0) [] c) (Ok (record { handled = k; left = left })))
           → On (i + 1) (handled + k) after
       one_done k left z t =
           rw (add-one i)
           (rw z at (goes_on_lem turn reads Good (λ c. of_good) targets [] b i handled 0 now after u (omega (arith, as_listed)) (get_or listed i 0) its_shard k left t (finishes (get_or listed i 0) [] u.board u.kept)))
 
-      pub one_refused : (a : Answer) → ((c : Board) → Holds now c → well_formed c ≡ true → TellsTurn [] after c (turn (get_or listed i 0) [] c) (Refused a))
+      pub one_refused : (a : Answer) → ((c : Board) → Holds now c → well_formed c ≡ true → TurnTells [] after c (turn (get_or listed i 0) [] c) (Err a))
           → Step (λ c. batch turn targets [] b) b after (outcome a handled 0)
       one_refused a t = stops turn reads Good (λ c. of_good) targets [] b i handled 0 now after u (omega (arith, as_listed)) (get_or listed i 0) its_shard a t

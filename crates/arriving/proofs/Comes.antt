@@ -27,7 +27,6 @@ use Rattle.board.specs.Held.{Holds, no_machine, no_boundary, no_reshape}
 use Rattle.board.proofs.Fitting.{held_as}
 use Rattle.board.proofs.Keyed.{machines_rise, bounds_rise, reshapes_rise}
 use Rattle.board.proofs.Moves.{place_at}
-use Rattle.rows.specs.Found.{Found}
 use Rattle.recasting.proofs.Sizes.{put_length, lack_none}
 use Rattle.arriving.specs.Coming.{reshape_in, MayCome}
 
@@ -52,9 +51,9 @@ not_both c t (Observing s w) n h = refl
 not_both c t Short n h = refl
 not_both c t (Other m) n h = refl
 
-pub comes_from : (b : Board) → well_formed b ≡ true → (c : Shard) (x : Id) (row : ℕ) → Found most_machines x no_machine b.machines row → row < most_machines → MayCome c x b
+pub comes_at : (b : Board) → well_formed b ≡ true → (c : Shard) (x : Id) (row : ℕ) → row < length b.machines → (get_or b.machines row no_machine).key ≡ x → MayCome c x b
     → is_seated_on c (get_or b.machines row no_machine).val ≡ false → may_join c ((get_or b.machines row no_machine).key ∷ []) b ≡ true
-comes_from b ok c x row f l m n = rw (f.named l) (m _ (at_is b.machines (machines_rise b ok) x row no_machine (f.inside l) (f.named l)) n)
+comes_at b ok c x row l e m n = rw e (m _ (at_is b.machines (machines_rise b ok) x row no_machine l e) n)
 
 -- the place that the code computed is the move's
 pub put_as : (b : Board) → well_formed b ≡ true → (s : Shard) (x : Id) (move : Place → Place) (p : Place) (i : ℕ) → i < length b.machines → (get_or b.machines i no_machine).key ≡ x

@@ -11,8 +11,6 @@ use Rattle.rules.specs.Moves.{for_all}
 use Rattle.rules.proofs.Tests.{every_parts}
 use Rattle.board.specs.Held.{no_machine}
 use Rattle.board.proofs.Keyed.{machines_rise}
-use Rattle.rows.specs.Found.{Found}
-use Rattle.recasting.proofs.Sizes.{found_stands, missing_stands}
 
 module _ {A : Type 0} (f : A → Bool) (l : List A) where
   pub every_ended : l ≡ [] → every f l ≡ true
@@ -33,13 +31,12 @@ module _ {A : Type 0} (f : A → Bool) (l : List A) where
 abbrev pub known : Board → ℕ → Bool
 known b x = stands x b.machines
 
-module _ (b : Board) (ok : well_formed b ≡ true) (all l m : List ℕ) (x y : ℕ) (e : l ≡ x ∷ m) (i : y ≡ x) (row : ℕ) (f : Found most_machines y no_machine b.machines row)
-    (s : every (known b) all ≡ every (known b) l) where
-  pub one_unknown : most_machines ≤ row → false ≡ every (known b) all
-  one_unknown h = sym (s ∙ every_fails (known b) l x m e (rw i at (missing_stands f h)))
+module _ (b : Board) (all l m : List ℕ) (x y : ℕ) (e : l ≡ x ∷ m) (i : y ≡ x) (s : every (known b) all ≡ every (known b) l) where
+  pub is_unknown : stands y b.machines ≡ false → false ≡ every (known b) all
+  is_unknown h = sym (s ∙ every_fails (known b) l x m e (rw i at h))
 
-  pub one_known : row < most_machines → every (known b) all ≡ every (known b) m
-  one_known h = s ∙ every_more (known b) l x m e (rw i at (found_stands f (machines_rise b ok) h))
+  pub is_known : stands y b.machines ≡ true → every (known b) all ≡ every (known b) m
+  is_known h = s ∙ every_more (known b) l x m e (rw i at h)
 
 -- ---- two lists
 

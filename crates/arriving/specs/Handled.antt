@@ -1,8 +1,7 @@
 -- What a turn without draws tells, whatever the words hold: at most one handled, and no draw read.
-use Rattle.std.specs.Prelude.{◌≤◌, ◌≡◌}
-use Rattle.pool.specs.declared.Turned.{Turned}
-use Rattle.pool.specs.declared.Turned.TheVariants.{Done, Refused}
+use Rattle.std.specs.Prelude.{◌≤◌, ◌≡◌, Result, IfOk}
+use Rattle.types.specs.declared.Answer.{Answer}
+use Rattle.pool.specs.declared.Turn.{Turn}
 
-abbrev pub AtMostOne : Turned → Type 0
-AtMostOne (Done n left) = (n ≤ 1) × (left.at ≡ 0)
-AtMostOne (Refused a) = Unit {0}
+abbrev pub OneAtMost : Result Turn Answer → Type 0
+OneAtMost r = IfOk r (λ t. (t.handled ≤ 1) × (t.left.at ≡ 0))

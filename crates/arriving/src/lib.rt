@@ -12,7 +12,7 @@ ghost use Rattle.board.specs.Layout.{board_size};
 ghost use Rattle.board.specs.Held.{Holds, no_machine};
 ghost use Rattle.arriving.specs.Coming.{reshape_in};
 
-use board::layout::{MOST_MACHINES, MOST_SEATS};
+use board::layout::MOST_SEATS;
 use board::{committees, machines};
 use reshapes::seats;
 use types::{Place, ShardId, ValidatorId};
@@ -52,13 +52,11 @@ pub fn seats_recorded(board: &[u64], i: usize) -> bool
         result ≡ every (λ x. stands x b.machines) (keys_of (reshape_in i b).seats) }
 {
     let n = steps::rows_within(seats::count(board, i), MOST_SEATS);
-    let mut k: usize = 0;
-    while k < n {
+    for k in 0..n {
         let seat = seats::at(board, i, k);
-        if MOST_MACHINES <= rows::machine_row(board, seat.id) {
+        if rows::find_machine(board, seat.id).is_none() {
             return false;
         }
-        k += 1;
     }
     true
 }

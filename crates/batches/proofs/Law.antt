@@ -6,6 +6,7 @@ use mathlib.Core.Bool.{true}
 use native.Mathlib.Omega.{arith}
 use lib.ListN.{length, get_or, drop, length-append, length-drop, drop_of_length-le}
 use lib.Seq.{drop-cons}
+use Rattle.std.specs.Prelude.{Result, Ok, Err}
 use Rattle.types.specs.Numbers.{Shard}
 use Rattle.types.specs.declared.Answer.{Answer}
 use Rattle.types.specs.declared.Answer.TheVariants.{Done}
@@ -16,14 +17,14 @@ use Rattle.rules.proofs.Turns.{Finishes, in_turn_finished, in_turn_refused, batc
 use Rattle.rules.proofs.Draws.{ReadsTurn}
 use Rattle.board.specs.Held.{Holds}
 use Rattle.sampling.specs.declared.Reader.{Reader}
-use Rattle.pool.specs.Told.{TellsTurn}
-use Rattle.pool.specs.declared.Turned as turned
+use Rattle.pool.specs.Told.{TurnTells}
+use Rattle.pool.specs.declared.Turn as step
 use Rattle.steps.specs.Inner.{outcome, Step}
 use Rattle.batches.specs.Underway.{Underway}
 
 -- what a shard's turn says of the words, whatever board they hold
-abbrev pub TellsShard : (Shard → List ℕ → Board → Turn) → List ℕ → ℕ → Shard → List ℕ → List ℕ → turned.Turned → Type 0
-TellsShard turn draws at s now after r = (c : Board) → Holds now c → well_formed c ≡ true → TellsTurn draws after c (turn s (drop at draws) c) r
+abbrev pub TellsShard : (Shard → List ℕ → Board → Turn) → List ℕ → ℕ → Shard → List ℕ → List ℕ → Result step.Turn Answer → Type 0
+TellsShard turn draws at s now after r = (c : Board) → Holds now c → well_formed c ≡ true → TurnTells draws after c (turn s (drop at draws) c) r
 
 module _ (turn : Shard → List ℕ → Board → Turn) (reads : (s : Shard) (c : Board) → ReadsTurn (λ ds. turn s ds c)) (Keeps : Board → Type 0)
     (good : (c : Board) → Keeps c → well_formed c ≡ true) (shards : List Shard) (draws : List ℕ) (b : Board) where
@@ -37,7 +38,7 @@ module _ (turn : Shard → List ℕ → Board → Turn) (reads : (s : Shard) (c 
     next_shard : drop i shards ≡ s ∷ drop (suc i) shards
     next_shard = rw e (drop-cons shards i 0 l)
 
-    pub goes_on_lem : (n : ℕ) (left : Reader) → TellsShard turn draws at s now after (turned.TheVariants.Done n left) → Finishes Keeps (turn s (drop at draws) u.board)
+    pub goes_on_lem : (n : ℕ) (left : Reader) → TellsShard turn draws at s now after (Ok (record { handled = n; left = left })) → Finishes Keeps (turn s (drop at draws) u.board)
         → At (suc i) (handled + n) left.at after
     goes_on_lem n left t k =
         let f = t u.board u.holds (good u.board u.kept) in
@@ -56,7 +57,7 @@ module _ (turn : Shard → List ℕ → Board → Turn) (reads : (s : Shard) (c 
               ∙ ap (λ k. in_turn turn (drop (suc i) shards) (handled + n) k (drop left.at draws) f.board) used;
         }
 
-    pub stops : (a : Answer) → TellsShard turn draws at s now after (turned.TheVariants.Refused a) → Step (λ c. batch turn shards draws b) b after (outcome a handled at)
+    pub stops : (a : Answer) → TellsShard turn draws at s now after (Err a) → Step (λ c. batch turn shards draws b) b after (outcome a handled at)
     stops a t =
         let f = t u.board u.holds (good u.board u.kept) in
         let e : batch turn shards draws b ≡ record { answer = a; handled = handled; used = at; board = u.board } =

@@ -1,3 +1,4 @@
 pub mod Law
 pub mod Wanted
 pub mod Loop
+pub mod Drawless

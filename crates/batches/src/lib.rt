@@ -25,23 +25,13 @@ impl Which {
     fn merges(self) -> bool
         ensures { result ≡ merges_of self }
     {
-        match self {
-            Which::SplitsToSchedule => false,
-            Which::MergesToSchedule => true,
-            Which::SplitsDue => false,
-            Which::MergesDue => true,
-        }
+        matches!(self, Which::MergesToSchedule | Which::MergesDue)
     }
 
     fn due(self) -> bool
         ensures { result ≡ due_of self }
     {
-        match self {
-            Which::SplitsToSchedule => false,
-            Which::MergesToSchedule => false,
-            Which::SplitsDue => true,
-            Which::MergesDue => true,
-        }
+        matches!(self, Which::SplitsDue | Which::MergesDue)
     }
 }
 
@@ -91,10 +81,8 @@ pub fn targets(board: &[u64], which: Which, out: &mut [u64]) -> usize
     let epoch = settings::epoch(board);
     let n = steps::rows_within(fields::count(board), MOST_RESHAPES);
     let mut k: usize = 0;
-    let mut i: usize = 0;
-    while i < n {
+    for i in 0..n {
         k = take_up(board, which, i, epoch, out, k);
-        i += 1;
     }
     k
 }

@@ -1,3 +1,4 @@
+pub mod Bits
 pub mod Widths
 pub mod One
 pub mod Permits

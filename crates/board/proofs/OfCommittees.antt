@@ -14,12 +14,11 @@ use Rattle.rules.specs.Board.{Board, most_committees, most_members, on_committee
 use Rattle.rules.specs.Snapshot.{id_words, rows_words}
 use Rattle.tables.specs.Rows.{pad, id_table, insert_at}
 use Rattle.tables.proofs.Tables.{table_length}
-use Rattle.tables.proofs.Ids.{id_at}
 use Rattle.tables.proofs.Drops.{keep_most}
 use Rattle.board.specs.Layout.{committee_width, committees_at, members_at, committee_row, encode}
 use Rattle.board.specs.Held.{roomy_committee, Holds, no_committee}
 use Rattle.board.specs.Leaves.{change_at}
-use Rattle.board.proofs.Sections.{committees, members_spot, key_stored, part_lent, part_back, part_first, part_word}
+use Rattle.board.proofs.Sections.{committees, members_spot, key_stored, part_lent, part_back}
 use Rattle.board.proofs.Fitting.{every_at, every_set, insert_at_lem, set_insert, insert_length, set_room, held_committees}
 
 pub committee_key : (e : Entry (List Id)) → get_or (committee_row e) 0 0 ≡ e.key
@@ -61,14 +60,6 @@ module _ (ws : List ℕ) (b : Board) (h : Holds ws b) (j : ℕ) (l : j < length 
 
   wide : length (id_table most_members row.val) ≡ 1 + most_members
   wide = table_length id_words 1 most_members row.val
-
-  pub members_count : get_or ws (committees_at + 1 + j * committee_width + members_at) 0 ≡ length row.val
-  members_count = part_first committees ws b h j no_committee l (entry row.key) (members_spot row.key) row.val refl (1 + most_members) wide (omega arith)
-
-  pub member_is : (i : ℕ) → i < length row.val → get_or ws (committees_at + 1 + j * committee_width + members_at + (1 + i)) 0 ≡ get_or row.val i 0
-  member_is i m =
-      part_word committees ws b h j no_committee l (entry row.key) (members_spot row.key) row.val refl (1 + most_members) wide (1 + i) (omega (arith, members_room))
-      ∙ id_at most_members row.val _ refl i m members_room
 
   pub members_lent : take (committees_at + 1 + j * committee_width + members_at + (1 + most_members) - (committees_at + 1 + j * committee_width + members_at)) (drop (committees_at + 1 + j * committee_width + members_at) ws)
       ≡ id_table most_members row.val

@@ -9,10 +9,10 @@ use borrow.Rule.Slice.PartMut.{put_mid}
 use Rattle.rules.specs.Table.{entry}
 use Rattle.rules.specs.Board.{Board, most_machines, most_committees, most_members, most_bounds, most_rotations, most_reshapes, on_settings, on_machines, on_committees, on_bounds, on_rotations, on_reshapes}
 use Rattle.rules.specs.Snapshot.{machine_words, boundary_words, rotation_words}
-use Rattle.tables.specs.Rows.{table, id_table, insert_at, remove_at, Rising, place_of, row_of, without, Row, words_in, key_in}
+use Rattle.tables.specs.Rows.{table, id_table, insert_at, remove_at, Rising, place_of, without, Row, words_in, key_in}
 use Rattle.shifts.proofs.Parts.{Spot, spot_read, spot_put, spot_word, spot_store, within}
 use Rattle.tables.proofs.Tables.{table_length, row_spot}
-use Rattle.tables.proofs.Typed.{opened_as, removed_as, dropped_as, placed_as, rowed_as}
+use Rattle.tables.proofs.Typed.{opened_as, removed_as, dropped_as, placed_as}
 use Rattle.board.specs.Layout.{machine_width, committee_width, boundary_width, rotation_width, members_at, reshape_width, machines_at, committees_at, bounds_at, rotations_at, reshapes_at, board_size, committee_row, reshape_row, settings_table, machine_table, committee_table, boundary_table, rotation_table, reshape_table, encode}
 use Rattle.board.specs.Held.{Fits, Holds}
 use Rattle.board.proofs.Widths.{machine_wide, committee_wide, boundary_wide, rotation_wide, reshape_wide, settings_wide, board_wide}
@@ -41,17 +41,12 @@ module _ {A : Type 0} {f : A → List ℕ} {w cap o : ℕ} {get : Board → List
   pub section_back : (xs : List A) (p : List ℕ) → p ≡ table f w cap xs → put_mid o (1 + cap * w) ws p ≡ encode (put xs b)
   section_back xs p g = spot_put (s.spot b) (get b) xs ws p o (1 + cap * w) whole refl (table_length f w cap (get b)) g
 
-  -- what `place_of`, `row_of`, `open_row`, `remove_row` and `drop_rows` make of the section
+  -- what `place_of`, `open_row`, `remove_row` and `drop_rows` make of the section
   module _ (key : A → ℕ) (first : (x : A) → get_or (f x) 0 0 ≡ key x) where
     pub section_place : (k r : ℕ) → Rising key (get b)
         → ((rs : List (Row w)) → take (1 + cap * w) (drop o ws) ≡ table words_in w cap rs → length rs ≤ cap → Rising key_in rs → r ≡ place_of key_in k rs)
         → r ≡ place_of key k (get b)
     section_place k r q g = placed_as f w s.wide cap (get b) _ [] section_lent key first k r (s.room b h.fits) q g
-
-    pub section_row : (k r : ℕ) → Rising key (get b)
-        → ((rs : List (Row w)) → take (1 + cap * w) (drop o ws) ≡ table words_in w cap rs → length rs ≤ cap → Rising key_in rs → r ≡ row_of key_in cap k rs)
-        → r ≡ row_of key cap k (get b)
-    section_row k r q g = rowed_as f w s.wide cap (get b) _ [] section_lent key first k r (s.room b h.fits) q g
 
     pub section_dropped : (k : ℕ) (u : List ℕ)
         → ((rs : List (Row w)) → take (1 + cap * w) (drop o ws) ≡ table words_in w cap rs → length rs ≤ cap → u ≡ table words_in w cap (without key_in k rs))
@@ -113,9 +108,6 @@ module _ {A : Type 0} {f : A → List ℕ} {w cap o : ℕ} {get : Board → List
       -- the first word of a part that has one
       pub part_first : 0 < n → get_or ws (o + 1 + i * w + c) 0 ≡ get_or (inner x) 0 0
       part_first m = spot_word part_at x ws (o + 1 + i * w + c) 0 part_whole (omega arith) (omega arith)
-
-      pub part_word : (j : ℕ) → j < n → get_or ws (o + 1 + i * w + c + j) 0 ≡ get_or (inner x) j 0
-      part_word j m = spot_word part_at x ws (o + 1 + i * w + c + j) j part_whole (omega arith) (omega arith)
 
 -- ---- the sections of the layout
 

@@ -1,9 +1,9 @@
 // The table of committees, by rising shard; a committee's members are a table in its row.
-ghost use Rattle.std.specs.Prelude.{◌≡◌, [], ◌∷◌, ◌++◌, ◌<◌, ◌≤◌, length, get_or};
+ghost use Rattle.std.specs.Prelude.{◌≡◌, [], ◌∷◌, ◌++◌, ◌+◌, ◌<◌, ◌≤◌, length, get_or};
 ghost use Rattle.rules.specs.Lists.{has, strike};
 ghost use Rattle.rules.specs.Table.{entry};
 ghost use Rattle.rules.specs.Board.{Board, most_committees, most_members, on_committees};
-ghost use Rattle.tables.specs.Rows.{Rising, key_of, place_of, insert_at, remove_at};
+ghost use Rattle.tables.specs.Rows.{id_table, Rising, key_of, place_of, insert_at, remove_at};
 ghost use Rattle.board.specs.Layout.{board_size};
 ghost use Rattle.board.specs.Held.{Holds, no_committee};
 ghost use Rattle.board.specs.Leaves.{change_at};
@@ -44,12 +44,22 @@ pub fn place_of(ws: &[u64], shard: ShardId) -> usize
 
 // ---- members
 
+// The words of the members of the committee at j.
+fn members(ws: &[u64], j: usize) -> &[u64]
+    requires { (length ws.now ≡ board_size) × (j < most_committees) }
+    ensures wide { length result.now ≡ 1 + most_members }
+    ensures held { (b : Board) → Holds ws.now b → j < length b.committees → result.now ≡ id_table most_members (get_or b.committees j no_committee).val }
+{
+    let a = COMMITTEES_AT + 1 + j * COMMITTEE_WIDTH + MEMBERS_AT;
+    let e = a + MEMBERS_SIZE;
+    &ws[a..e]
+}
+
 pub fn member_count(ws: &[u64], j: usize) -> usize
     requires { (length ws.now ≡ board_size) × (j < most_committees) }
     ensures { (b : Board) → Holds ws.now b → j < length b.committees → result ≡ length (get_or b.committees j no_committee).val }
 {
-    let a = COMMITTEES_AT + 1 + j * COMMITTEE_WIDTH + MEMBERS_AT;
-    ws[a] as usize
+    members(ws, j)[0] as usize
 }
 
 pub fn member_at(ws: &[u64], j: usize, i: usize) -> ValidatorId
@@ -57,17 +67,14 @@ pub fn member_at(ws: &[u64], j: usize, i: usize) -> ValidatorId
     ensures { (b : Board) → Holds ws.now b → j < length b.committees → i < length (get_or b.committees j no_committee).val →
         result.0 ≡ get_or (get_or b.committees j no_committee).val i 0 }
 {
-    let a = COMMITTEES_AT + 1 + j * COMMITTEE_WIDTH + MEMBERS_AT;
-    ValidatorId(ws[a + (1 + i)])
+    ValidatorId(members(ws, j)[1 + i])
 }
 
 pub fn has_member(ws: &[u64], j: usize, id: ValidatorId) -> bool
     requires { (length ws.now ≡ board_size) × (j < most_committees) }
     ensures { (b : Board) → Holds ws.now b → j < length b.committees → result ≡ has id.0 (get_or b.committees j no_committee).val }
 {
-    let a = COMMITTEES_AT + 1 + j * COMMITTEE_WIDTH + MEMBERS_AT;
-    let e = a + MEMBERS_SIZE;
-    tables::contains(&ws[a..e], MOST_MEMBERS, id.0)
+    tables::contains(members(ws, j), MOST_MEMBERS, id.0)
 }
 
 // A member more, at the end.

@@ -14,9 +14,11 @@ ghost use Rattle.carved.specs.Rows.{split_fits};
 
 use board::layout::{MOST_MACHINES, MOST_RESHAPES};
 use board::machines;
-use reshapes::{fields, halves};
+use reshapes::{Side, fields, halves};
 use shards::rotations;
 use types::{Machine, ShardId};
+
+// Loops that stop at the first row that fails: `all` is no plainer, and its closure would need clauses over the board.
 
 // ---- halves
 
@@ -26,12 +28,12 @@ pub fn is_in_one_half(board: &[u64], i: usize, target: ShardId, m: Machine) -> b
     ensures { (b : Board) → Holds board.now b → i < length b.reshapes →
         result ≡ is_in_one_half target.0 (get_or b.reshapes i no_reshape).val (machine_entry m) }
 {
-    let id = m.id;
-    let p = m.place;
-    if !p.is_seated_on(target) {
+    if !m.place.is_seated_on(target) {
         return true;
     }
-    halves::is_in_left(board, i, id) != halves::is_in_right(board, i, id)
+    let is_left = halves::contains(board, i, Side::Left, m.id);
+    let is_right = halves::contains(board, i, Side::Right, m.id);
+    is_left != is_right
 }
 
 fn halves_fit(board: &[u64], i: usize, target: ShardId) -> bool
@@ -40,12 +42,10 @@ fn halves_fit(board: &[u64], i: usize, target: ShardId) -> bool
         result ≡ every (is_in_one_half target.0 (get_or b.reshapes i no_reshape).val) b.machines }
 {
     let n = steps::rows_within(machines::count(board), MOST_MACHINES);
-    let mut k: usize = 0;
-    while k < n {
+    for k in 0..n {
         if !is_in_one_half(board, i, target, machines::at(board, k)) {
             return false;
         }
-        k += 1;
     }
     true
 }
@@ -58,14 +58,11 @@ fn is_at_rest(board: &[u64], shard: ShardId) -> bool
     ensures { (b : Board) → Holds board.now b → result ≡ not (any (is_on shard.0) b.rotations) }
 {
     let n = rotations::rows(board);
-    let mut i: usize = 0;
-    while i < n {
+    for i in 0..n {
         let r = rotations::at(board, i);
-        let there = r.shard;
-        if there.0 == shard.0 {
+        if r.shard == shard {
             return false;
         }
-        i += 1;
     }
     true
 }
@@ -91,12 +88,10 @@ pub fn scheduled_fit(board: &[u64]) -> bool
     ensures { (b : Board) → Holds board.now b → well_formed b ≡ true → result ≡ scheduled_fit b }
 {
     let n = steps::rows_within(fields::count(board), MOST_RESHAPES);
-    let mut i: usize = 0;
-    while i < n {
+    for i in 0..n {
         if !split_fits(board, i) {
             return false;
         }
-        i += 1;
     }
     true
 }

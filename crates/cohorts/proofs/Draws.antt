@@ -28,11 +28,9 @@ use Rattle.rules.proofs.KeptLists.{of_ids}
 use Rattle.rules.proofs.KeptTables.{holds_at_lem}
 use Rattle.rules.proofs.KeptBoard.{good_of_lem}
 use Rattle.rules.proofs.KeptReshapes.{chosen}
-use Rattle.sampling.specs.Reads.{GivesShuffle, mixed}
-use Rattle.sampling.specs.declared.Reader.{Reader}
-use Rattle.sampling.specs.declared.Shuffled.{Shuffled}
-use Rattle.sampling.specs.declared.Shuffled.TheVariants as shuffled
-use Rattle.sampling.proofs.Mixes.{shuffle_missing, shuffle_large, shuffle_drew}
+use Rattle.sampling.specs.Reads.{no_draw, answer_to}
+use Rattle.sampling.specs.declared.DrawError.{DrawError}
+use Rattle.sampling.specs.declared.DrawError.TheVariants.{Missing, TooLarge}
 use Rattle.tables.proofs.Keys.{at_is}
 use Rattle.board.specs.Held.{Holds, no_machine, no_committee, no_reshape}
 use Rattle.board.proofs.Keyed.{committees_rise, reshapes_rise}
@@ -40,7 +38,6 @@ use Rattle.board.proofs.Moves.{members_at_lem, members_none}
 use Rattle.pool.proofs.Pools.{keys_here, keys_past}
 use Rattle.steps.specs.Inner.{outcome, Step}
 use Rattle.moves.proofs.Exiting.{split_unless}
-use Rattle.cohorts.specs.Awaiting.{Awaiting}
 
 -- ---- the pool, as a loop gathers it
 
@@ -59,16 +56,6 @@ pub counted : (ids pool : List ℕ) (n : ℕ) → n ≤ length ids → take n id
 counted ids pool n l e = sym (length-take-le n ids l) ∙ ap length e
 
 -- ---- the pool, shuffled
-
-module _ (draws pool l after : List ℕ) (e : l ≡ pool) (p : ℕ) (z : p ≡ 0) (r : Shuffled) (g : GivesShuffle (length draws) (shuffle l (drop p draws)) r) (m : after ≡ mixed l (drop p draws)) where
-  pub mix_missing : r ≡ shuffled.Missing → shuffle pool draws ≡ missing
-  mix_missing q = rw (e, z) at (shuffle_missing draws l p (omega arith) r g q)
-
-  pub mix_large : r ≡ shuffled.TooLarge → shuffle pool draws ≡ too_large
-  mix_large q = rw (e, z) at (shuffle_large draws l p (omega arith) r g q)
-
-  pub mix_done : (left : Reader) → r ≡ shuffled.Done left → (left.at ≤ length draws) × (shuffle pool draws ≡ drew after (drop left.at draws))
-  mix_done left q = let d = shuffle_drew draws l p (omega arith) r g left q in (d.0, rw (← m, e, z) at d.1)
 
 -- the first S of them
 module _ (b : Board) (draws ids left : List ℕ) (s : shuffle (pool_of b) draws ≡ drew ids left) where
@@ -155,9 +142,6 @@ pub asks : (b : Board) → well_formed b ≡ true → (t : Shard) (i : ℕ) → 
     → holds_at t awaits_cohort b.reshapes ≡ awaits_cohort (get_or b.reshapes i no_reshape).val
 asks b ok t i here named = holds_at_lem t awaits_cohort b.reshapes _ (at_is b.reshapes (reshapes_rise b ok) t i no_reshape here named)
 
-pub none_awaits : (b : Board) (t : Shard) → holds_at t awaits_cohort b.reshapes ≡ false → Awaiting t b most_reshapes
-none_awaits b t n = record { inside = λ l. absurd (omega arith); named = λ l. absurd (omega arith); awaits = λ l. absurd (omega arith); missing = λ l. n }
-
 -- ---- each way out
 
 module _ (b : Board) (ok : well_formed b ≡ true) (after : List ℕ) (r : Outcome) (t : Shard) (draws : List ℕ) where
@@ -183,13 +167,17 @@ module _ (b : Board) (ok : well_formed b ≡ true) (after : List ℕ) (r : Outco
           enough : ltb (length (pool_of b)) (size_of b) ≡ false
           enough = le-ltb _ _ l
 
-          pub draw_missing : shuffle (pool_of b) draws ≡ missing → Holds after b → r ≡ outcome DrawMissing 0 0 → Step (draw_cohort t draws) b after r
+          draw_missing : shuffle (pool_of b) draws ≡ missing → Holds after b → r ≡ outcome DrawMissing 0 0 → Step (draw_cohort t draws) b after r
           unfolding draw_cohort alone checked drawn
           draw_missing s h e = record { told = rw (ok, y, awaits, enough, s) e; left = rw (ok, y, awaits, enough, s) h }
 
-          pub draw_large : shuffle (pool_of b) draws ≡ too_large → Holds after b → r ≡ outcome DrawTooLarge 0 0 → Step (draw_cohort t draws) b after r
+          draw_large : shuffle (pool_of b) draws ≡ too_large → Holds after b → r ≡ outcome DrawTooLarge 0 0 → Step (draw_cohort t draws) b after r
           unfolding draw_cohort alone checked drawn
           draw_large s h e = record { told = rw (ok, y, awaits, enough, s) e; left = rw (ok, y, awaits, enough, s) h }
+
+          pub draw_fails : (d : DrawError) → shuffle (pool_of b) draws ≡ no_draw d → Holds after b → r ≡ outcome (answer_to d) 0 0 → Step (draw_cohort t draws) b after r
+          draw_fails Missing s h e = draw_missing s h e
+          draw_fails TooLarge s h e = draw_large s h e
 
           module _ (ids : List Id) (left : ℕ) (within : left ≤ length draws) (s : shuffle (pool_of b) draws ≡ drew ids (drop left draws)) where
             no_room_lem : may_join t (take (size_of b) ids) b ≡ false → Holds after b → r ≡ outcome NoRoom 0 0 → Step (draw_cohort t draws) b after r

@@ -1,5 +1,5 @@
 // A cohort drawn: the pool shuffled, and the first S of it set to watch the target. It plans, then applies: every refusal comes before the first write.
-ghost use Rattle.std.specs.Prelude.{◌≡◌, true, cond, not, ◌<◌, ◌≤◌, length, get_or, take};
+ghost use Rattle.std.specs.Prelude.{◌≡◌, true, cond, not, ◌<◌, ◌≤◌, length, get_or, take, IfSome};
 ghost use Rattle.rules.specs.Lists.{every, has, is_empty};
 ghost use Rattle.rules.specs.Board.{Board, most_machines, most_committees, most_reshapes, most_seats, size_of};
 ghost use Rattle.rules.specs.WellFormed.{is_target, good_ids, well_formed};
@@ -7,14 +7,14 @@ ghost use Rattle.rules.specs.Moves.{pool_of, may_join};
 ghost use Rattle.rules.specs.Reshapes.{awaits_cohort, watch_all, draw_cohort};
 ghost use Rattle.board.specs.Layout.{board_size};
 ghost use Rattle.board.specs.Held.{Holds, no_committee, no_reshape};
-ghost use Rattle.steps.specs.Inner.{outcome, Step, Steps};
+ghost use Rattle.steps.specs.Inner.{outcome, step_told, Step, Steps};
 ghost use Rattle.cohorts.specs.Awaiting.{Awaiting};
 
 use super::watch;
-use board::layout::{MOST_COMMITTEES, MOST_MACHINES, MOST_MEMBERS, MOST_RESHAPES};
+use board::layout::{MOST_COMMITTEES, MOST_MACHINES, MOST_MEMBERS};
 use board::{committees, machines};
 use reshapes::{fields, seats};
-use sampling::{Reader, Shuffled};
+use sampling::Reader;
 use types::{Answer, Outcome, ShardId, ValidatorId};
 
 // ---- what is asked
@@ -26,15 +26,11 @@ fn pool_ids(board: &[u64], out: &mut [u64]) -> usize
 {
     let n = steps::rows_within(machines::count(board), MOST_MACHINES);
     let mut k: usize = 0;
-    let mut i: usize = 0;
-    while i < n {
+    for i in 0..n {
         let m = machines::at(board, i);
-        let p = m.place;
-        let id = m.id;
         // Whoever is not pooled is written over by the next.
-        out[k] = id.0;
-        k += machines::bit(p.is_pooled()) as usize;
-        i += 1;
+        out[k] = m.id.0;
+        k += usize::from(m.place.is_pooled());
     }
     k
 }
@@ -53,19 +49,18 @@ fn awaits_cohort(board: &[u64], i: usize) -> bool
     seats::count(board, i) == 0
 }
 
-// The row of the target's split, if it awaits its cohort; else 8, past every row.
-fn awaiting_row(board: &[u64], target: ShardId) -> usize
+// The row of the target's split, if it awaits its cohort.
+fn find_awaiting(board: &[u64], target: ShardId) -> Option<usize>
     requires { length board.now ≡ board_size }
-    ensures { (b : Board) → Holds board.now b → well_formed b ≡ true → Awaiting target.0 b result }
+    ensures room { IfSome result (λ i. i < most_reshapes) }
+    ensures found { (b : Board) → Holds board.now b → well_formed b ≡ true → Awaiting target.0 b result }
 {
-    let i = rows::reshape_row(board, target);
-    if MOST_RESHAPES <= i {
-        return MOST_RESHAPES;
-    }
+    let i = rows::find_reshape(board, target)?;
     if awaits_cohort(board, i) {
-        return i;
+        Some(i)
+    } else {
+        None
     }
-    MOST_RESHAPES
 }
 
 // No id is a member of the committee at j.
@@ -74,12 +69,10 @@ fn none_joined(board: &[u64], j: usize, ids: &[u64]) -> bool
     ensures { (b : Board) → Holds board.now b → j < length b.committees →
         result ≡ every (λ x. not (has x (get_or b.committees j no_committee).val)) ids.now }
 {
-    let mut k: usize = 0;
-    while k < ids.len() {
-        if committees::has_member(board, j, ValidatorId(ids[k])) {
+    for id in ids {
+        if committees::has_member(board, j, ValidatorId(*id)) {
             return false;
         }
-        k += 1;
     }
     true
 }
@@ -88,10 +81,9 @@ fn may_join_all(board: &[u64], target: ShardId, ids: &[u64]) -> bool
     requires { (length board.now ≡ board_size) × (length ids.now ≤ most_seats) }
     ensures { (b : Board) → Holds board.now b → well_formed b ≡ true → result ≡ may_join target.0 ids.now b }
 {
-    let j = rows::committee_row(board, target);
-    if MOST_COMMITTEES <= j {
+    let Some(j) = rows::find_committee(board, target) else {
         return committees::count(board) < MOST_COMMITTEES;
-    }
+    };
     if none_joined(board, j, ids) {
         return committees::member_count(board, j) <= MOST_MEMBERS - ids.len();
     }
@@ -101,18 +93,24 @@ fn may_join_all(board: &[u64], target: ShardId, ids: &[u64]) -> bool
 // ---- the step
 
 // The ids are the cohort of the split at i, if the committee has room for all of them.
-fn enlist(board: &mut [u64], i: usize, target: ShardId, ids: &[u64], used: u64) -> Outcome
+fn enlist(
+    board: &mut [u64],
+    i: usize,
+    target: ShardId,
+    ids: &[u64],
+    used: u64,
+) -> Result<Outcome, Answer>
     requires { (length board.old ≡ board_size) × (i < most_reshapes) × (target.0 ≤ 65535) × (length ids.now ≤ most_seats) }
     ensures { (b : Board) → Holds board.old b → well_formed b ≡ true → i < length b.reshapes → (get_or b.reshapes i no_reshape).key ≡ target.0 →
         is_empty (get_or b.reshapes i no_reshape).val.seats ≡ true → good_ids most_seats ids.now ≡ true →
-        (result ≡ cond (may_join target.0 ids.now b) (outcome Answer.Done (length ids.now) used) (outcome Answer.NoRoom 0 0))
+        (step_told result ≡ cond (may_join target.0 ids.now b) (outcome Answer.Done (length ids.now) used) (outcome Answer.NoRoom 0 0))
         × Holds board.new (cond (may_join target.0 ids.now b) (watch_all target.0 ids.now b) b) }
 {
-    if may_join_all(board, target, ids) {
-        watch::watch_all(board, i, target, ids);
-        return steps::done(ids.len() as u64, used);
+    if !may_join_all(board, target, ids) {
+        return Err(Answer::NoRoom);
     }
-    steps::refusal(Answer::NoRoom)
+    watch::watch_all(board, i, target, ids);
+    Ok(steps::done(ids.len() as u64, used))
 }
 
 // The draw for a split that awaits its cohort at i, from the pool, which has enough.
@@ -123,31 +121,41 @@ fn draw_from(
     size: usize,
     draws: &[u64],
     pool: &mut [u64],
-) -> Outcome
+) -> Result<Outcome, Answer>
     requires { (length board.old ≡ board_size) × (i < most_reshapes) × (target.0 ≤ 65535) × (size ≤ most_seats) × (size ≤ length pool.old) }
     ensures { (b : Board) → Holds board.old b → well_formed b ≡ true → is_target target.0 ≡ true → i < length b.reshapes → (get_or b.reshapes i no_reshape).key ≡ target.0 →
-        awaits_cohort (get_or b.reshapes i no_reshape).val ≡ true → size ≡ size_of b → pool.old ≡ pool_of b → Step (draw_cohort target.0 draws.now) b board.new result }
+        awaits_cohort (get_or b.reshapes i no_reshape).val ≡ true → size ≡ size_of b → pool.old ≡ pool_of b → Step (draw_cohort target.0 draws.now) b board.new (step_told result) }
 {
-    let shuffled = Reader::start().shuffle(pool, draws);
-    match shuffled {
-        Shuffled::Done(left) => enlist(board, i, target, &pool[..size], left.at as u64),
-        Shuffled::Missing => steps::refusal(Answer::DrawMissing),
-        Shuffled::TooLarge => steps::refusal(Answer::DrawTooLarge),
-    }
+    let left = Reader::start().shuffled(pool, draws)?;
+    enlist(board, i, target, &pool[..size], left.at as u64)
 }
 
-// The same, if the pool has enough; 256 words are lent for it.
-fn draw_for(board: &mut [u64], i: usize, target: ShardId, draws: &[u64], ids: &mut [u64]) -> Outcome
-    requires { (length board.old ≡ board_size) × (i < most_reshapes) × (target.0 ≤ 65535) × (length ids.old ≡ most_machines) }
+// The same, if the pool has enough.
+fn draw_for(board: &mut [u64], i: usize, target: ShardId, draws: &[u64]) -> Result<Outcome, Answer>
+    requires { (length board.old ≡ board_size) × (i < most_reshapes) × (target.0 ≤ 65535) }
     ensures { (b : Board) → Holds board.old b → well_formed b ≡ true → is_target target.0 ≡ true → i < length b.reshapes → (get_or b.reshapes i no_reshape).key ≡ target.0 →
-        awaits_cohort (get_or b.reshapes i no_reshape).val ≡ true → Step (draw_cohort target.0 draws.now) b board.new result }
+        awaits_cohort (get_or b.reshapes i no_reshape).val ≡ true → Step (draw_cohort target.0 draws.now) b board.new (step_told result) }
 {
-    let n = pool_ids(board, ids);
+    let mut ids: [u64; MOST_MACHINES] = [0; MOST_MACHINES];
+    let n = pool_ids(board, &mut ids);
     let size = watch::cohort_size(board);
     if n < size {
-        return steps::refusal(Answer::PoolTooSmall);
+        return Err(Answer::PoolTooSmall);
     }
     draw_from(board, i, target, size, draws, &mut ids[..n])
+}
+
+fn draw(board: &mut [u64], target: ShardId, draws: &[u64]) -> Result<Outcome, Answer>
+    requires { length board.old ≡ board_size }
+    ensures { Steps (draw_cohort target.0 draws.now) board.old board.new (step_told result) }
+{
+    if !rows::is_target(target) {
+        return Err(Answer::OutOfRange);
+    }
+    let Some(i) = find_awaiting(board, target) else {
+        return Err(Answer::NotThere);
+    };
+    draw_for(board, i, target, draws)
 }
 
 // Draw cohort, for words that are known to hold a well-formed board.
@@ -155,13 +163,5 @@ pub fn draw_split_cohort_held(board: &mut [u64], target: ShardId, draws: &[u64])
     requires { length board.old ≡ board_size }
     ensures { Steps (draw_cohort target.0 draws.now) board.old board.new result }
 {
-    if !rows::is_target(target) {
-        return steps::refusal(Answer::OutOfRange);
-    }
-    let i = awaiting_row(board, target);
-    if MOST_RESHAPES <= i {
-        return steps::refusal(Answer::NotThere);
-    }
-    let mut ids: [u64; MOST_MACHINES] = [0; MOST_MACHINES];
-    draw_for(board, i, target, draws, &mut ids)
+    steps::told(draw(board, target, draws))
 }

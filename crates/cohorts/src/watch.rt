@@ -14,7 +14,7 @@ ghost use Rattle.tables.specs.Rows.{Rising, key_of};
 ghost use Rattle.board.specs.Layout.{board_size};
 ghost use Rattle.board.specs.Held.{Holds, no_reshape};
 
-use board::layout::{MOST_MACHINES, MOST_SEATS};
+use board::layout::MOST_SEATS;
 use board::{machines, settings};
 use reshapes::seats;
 use reshapes::seats::Seat;
@@ -25,14 +25,12 @@ fn set_to_watch(board: &mut [u64], target: ShardId, id: ValidatorId)
     requires { length board.old ≡ board_size }
     ensures { (b : Board) → Holds board.old b → well_formed b ≡ true → Holds board.new (place id.0 (set_to_watch target.0 (epoch_of b)) b) }
 {
-    let i = rows::machine_row(board, id);
-    if MOST_MACHINES <= i {
+    let Some(i) = rows::find_machine(board, id) else {
         return;
-    }
-    let m = machines::at(board, i);
-    let p = m.place;
+    };
+    let place = machines::at(board, i).place;
     let epoch = settings::epoch(board);
-    joining::put_place(board, i, p.set_to_watch(target, epoch));
+    joining::put_place(board, i, place.set_to_watch(target, epoch));
 }
 
 // A seat, not ready, for one that has none in the reshape at i.
@@ -46,16 +44,12 @@ fn open_seat(board: &mut [u64], i: usize, child: ShardId, id: ValidatorId)
     if MOST_SEATS <= k {
         return;
     }
-    seats::open(
-        board,
-        i,
-        k,
-        Seat {
-            id: id,
-            child: child,
-            ready: false,
-        },
-    );
+    let seat = Seat {
+        id,
+        child,
+        ready: false,
+    };
+    seats::open(board, i, k, seat);
 }
 
 // The id watches the target, whose reshape stands at i.
@@ -74,10 +68,7 @@ fn child_of(target: ShardId, left: bool) -> ShardId
     requires { target.0 ≤ 65535 }
     ensures { result.0 ≡ cond left (left_of target.0) (right_of target.0) }
 {
-    if left {
-        return target.left();
-    }
-    target.right()
+    if left { target.left() } else { target.right() }
 }
 
 // S, as many as a cohort has, and no more than there is room for.
@@ -97,10 +88,8 @@ pub fn watch_all(board: &mut [u64], i: usize, target: ShardId, ids: &[u64])
 {
     let size = cohort_size(board);
     let half = (size + 1) / 2;
-    let mut k: usize = 0;
-    while k < ids.len() {
+    for (k, id) in ids.iter().enumerate() {
         let child = child_of(target, k < half);
-        watch(board, i, target, child, ValidatorId(ids[k]));
-        k += 1;
+        watch(board, i, target, child, ValidatorId(*id));
     }
 }

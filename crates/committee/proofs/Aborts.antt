@@ -6,9 +6,9 @@ use mathlib.Core.Bool.{Bool, true, false, cond}
 use native.Mathlib.Numerals.{add-one}
 use lib.ListN.{length, get_or, drop, drop_of_length-le}
 use lib.Seq.{drop-cons}
-use borrow.Author.Tests.{eq-eqb, ne_eqb}
+use lib.Dec.{eqb}
 use Rattle.types.specs.Numbers.{Shard, Id}
-use Rattle.types.specs.Places.{is_seated_on}
+use Rattle.types.specs.Places.{shard_id, is_seated_on}
 use Rattle.rules.specs.Board.{Rotation, Board, on_rotations}
 use Rattle.rules.specs.WellFormed.{well_formed}
 use Rattle.rules.specs.Moves.{place, quit, take_off, for_all, pooled_from, is_on, drop_rotations, entrants_on, abort_rotations}
@@ -18,11 +18,11 @@ use Rattle.moves.specs.declared.Exit.TheVariants.{FromSeat}
 use Rattle.committee.specs.Aborted.{entrant_left}
 
 module _ (s : Shard) (b : Board) (q : Rotation) (after : List ℕ) where
-  pub entrant_leaves : q.shard ≡ s → Holds after (take_off s (pooled_from (is_seated_on s)) q.entrant b) → Holds after (entrant_left s q b)
-  entrant_leaves e h = rw (eq-eqb q.shard s e) h
+  pub entrant_leaves : eqb q.shard s ≡ true → Holds after (take_off s (pooled_from (is_seated_on s)) q.entrant b) → Holds after (entrant_left s q b)
+  entrant_leaves e h = rw e h
 
-  pub entrant_stays : (q.shard ≡ s → ⊥) → Holds after b → Holds after (entrant_left s q b)
-  entrant_stays n h = rw (ne_eqb q.shard s n) h
+  pub entrant_stays : eqb q.shard s ≡ false → Holds after b → Holds after (entrant_left s q b)
+  entrant_stays n h = rw n h
 
 abbrev leaves : Shard → Id → Board → Board
 leaves s = take_off s (pooled_from (is_seated_on s))
@@ -53,7 +53,7 @@ module _ (s : Shard) (b : Board) (i : ℕ) (ws : List ℕ) (w : Left s b i ws) w
       go true e h = record {
         board = leaves s now.entrant w.board;
         held = h;
-        good = taken_well w.board w.good now.entrant FromSeat s;
+        good = taken_well w.board w.good now.entrant (FromSeat (shard_id s)) s;
         rotations = w.rotations;
         rest = rw (add-one i) (sym (ap (λ (k : List Rotation). for_all (leaves s) (entrants_on s k) w.board) (drop-cons b.rotations i no_rotation l) ∙ rw e) ∙ w.rest);
       }

@@ -4,7 +4,7 @@ use mathlib.Core.Path.{◌≡◌, refl, ap, sym, ◌∙◌}
 use mathlib.Core.List.{List}
 use mathlib.Core.Bool.{Bool, true, false, not}
 use native.Mathlib.Numerals.{add-one}
-use borrow.Author.Tests.{eq-eqb, ne_eqb}
+use lib.Dec.{eqb}
 use lib.ListN.{length, get_or, drop, drop_of_length-le}
 use lib.Seq.{drop-cons}
 use Rattle.types.specs.Numbers.{Shard}
@@ -31,17 +31,17 @@ module _ (b : Board) (ok : well_formed b ≡ true) where
 -- ---- rotations that are counted
 
 module _ (s : Shard) (b : Board) (r : Rotation) where
-  pub counts_elsewhere : (which : Counted) → (r.shard ≡ s → ⊥) → false ≡ counts which s b r
+  pub counts_elsewhere : (which : Counted) → eqb r.shard s ≡ false → false ≡ counts which s b r
   unfolding ◌and◌
-  counts_elsewhere Open n = sym (ne_eqb r.shard s n)
-  counts_elsewhere InFlight n = rw (ne_eqb r.shard s n)
+  counts_elsewhere Open n = sym n
+  counts_elsewhere InFlight n = rw n
 
-  pub counts_open : (which : Counted) → which ≡ Open → r.shard ≡ s → true ≡ counts which s b r
-  counts_open which w e = rw w (sym (eq-eqb r.shard s e))
+  pub counts_open : (which : Counted) → which ≡ Open → eqb r.shard s ≡ true → true ≡ counts which s b r
+  counts_open which w e = rw w (sym e)
 
-  pub counts_in_flight : (which : Counted) → which ≡ InFlight → r.shard ≡ s → (c : Bool) → c ≡ says is_ready b r.entrant → not c ≡ counts which s b r
+  pub counts_in_flight : (which : Counted) → which ≡ InFlight → eqb r.shard s ≡ true → (c : Bool) → c ≡ says is_ready b r.entrant → not c ≡ counts which s b r
   unfolding ◌and◌
-  counts_in_flight which w e c q = rw (w, eq-eqb r.shard s e, q)
+  counts_in_flight which w e c q = rw (w, e, q)
 
 -- ---- how many of a list from row i on, as a loop goes
 

@@ -1,13 +1,14 @@
 -- Rotate, as the code has it: the gate, the row of a new rotation, the turn, and each way out.
-use Prim.Native.Nat.{ℕ, suc, ◌-◌, ◌%◌, ◌≤◌, ◌<◌}
-use mathlib.Core.Path.{◌≡◌, refl, ◌∙◌}
+use Prim.Native.Nat.{ℕ, suc, ◌-◌, ◌%◌, ◌≤◌}
+use mathlib.Core.Path.{◌≡◌, refl, ap, sym, ◌∙◌}
 use mathlib.Core.List.{List, [], ◌∷◌}
 use mathlib.Core.Option.{none}
 use mathlib.Core.Bool.{Bool, true, false, cond, not, true≢false}
 use native.Mathlib.Omega.{arith}
-use borrow.Author.Tests.{lt-leb}
+use borrow.Author.Tests.{lt-leb, le-leb, ltb-true, ltb-false}
+use Rattle.shards.specs.Rotations.{found_where}
 use lib.Dec.{eqb, leb, ltb}
-use lib.ListN.{length, get_or}
+use lib.ListN.{length}
 use Rattle.types.specs.Numbers.{Shard, Id}
 use Rattle.types.specs.Places.{is_seated_on, drawn_to}
 use Rattle.types.specs.declared.Place.{Place}
@@ -23,16 +24,21 @@ use Rattle.rules.specs.Places.{in_flight, may_rotate, victim_fit, new_rotation, 
 use Rattle.rules.proofs.Tests.{and_parts, all_parts, le_of, of_le, lt_of_no}
 use Rattle.rules.proofs.KeptBoard.{good_of_lem}
 use Rattle.tables.specs.Rows.{first_where, insert_at}
-use Rattle.tables.proofs.Keys.{first_most, at_is, open_is_insert_at}
+use Rattle.tables.proofs.Keys.{first_most, open_is_insert_at}
+use Rattle.rows.specs.Finds.{FoundAt}
+use Rattle.rows.proofs.Asked.{finds_stands}
 use Rattle.board.specs.Held.{Holds, no_committee}
 use Rattle.board.proofs.Keyed.{committees_rise}
 use Rattle.steps.specs.Inner.{outcome, Step}
-use Rattle.pool.specs.declared.Turned.{Turned}
-use Rattle.pool.specs.Told.{TellsTurn, told_of}
-use Rattle.pool.proofs.Alone.{alone_told, alone_left}
+use Rattle.std.specs.Prelude.{Result, Option, None, Some}
+use Rattle.std.specs.Option as option
+use Rattle.types.specs.declared.Answer.{Answer}
+use Rattle.pool.specs.declared.Turn.{Turn}
+use Rattle.pool.specs.Told.{TurnTells, turn_told}
+use Rattle.pool.proofs.Alone.{turn_alone, turn_leaves}
 use Rattle.committee.specs.Counted.{counts}
 use Rattle.committee.specs.declared.reads.Counted.TheVariants.{InFlight}
-use Rattle.committee.specs.Opened.{RowFor, opened}
+use Rattle.committee.specs.Opened.{Goes, opened}
 
 -- ---- the gate
 
@@ -70,9 +76,17 @@ module _ (s : Shard) (b : Board) where
       unfolding may_rotate ◌and◌ in_flight
       gate_in_flight n k m ke me = let p = and_parts nonzero multiple y in rw (p.0, p.1, c, n, ke, me)
 
-pub committee_stands : (s : Shard) (b : Board) → well_formed b ≡ true → (j : ℕ) → j < length b.committees → (get_or b.committees j no_committee).key ≡ s → stands s b.committees ≡ true
-unfolding stands is_some
-committee_stands s b ok j l e = rw (at_is b.committees (committees_rise b ok) s j no_committee l e)
+-- of the committee that was looked for
+module _ (s : Shard) (b : Board) (o : Option ℕ) (f : FoundAt s no_committee b.committees o) where
+  pub committee_stands : well_formed b ≡ true → option.is_some o ≡ true → stands s b.committees ≡ true
+  committee_stands ok e = sym (finds_stands s no_committee b.committees o (committees_rise b ok) f) ∙ e
+
+  pub committee_missing : option.is_some o ≡ false → at s b.committees ≡ none
+  committee_missing e = go o f e
+    where
+      go : (o : Option ℕ) → FoundAt s no_committee b.committees o → option.is_some o ≡ false → at s b.committees ≡ none
+      go None g e = g
+      go (Some i) g e = absurd (true≢false e)
 
 -- ---- the victim
 
@@ -93,36 +107,43 @@ past_all f (x ∷ l) = go (f x) (past_all f l)
     go true e = lt-leb (suc (length l)) 0 (omega arith)
     go false e = leb_suc (length l) (first_where f l) ∙ e
 
+none_found_lem : (f : Rotation → Bool) (l : List Rotation) → option.is_none (found_where f l) ≡ not (any f l)
+none_found_lem f l = go (ltb (first_where f l) (length l)) refl
+  where
+    go : (c : Bool) → ltb (first_where f l) (length l) ≡ c → option.is_none {T = ℕ} (cond c (Some (first_where f l)) None) ≡ not (any f l)
+    go true e = sym (lt-leb (length l) (first_where f l) (ltb-true _ _ e)) ∙ past_all f l
+    go false e = sym (le-leb (length l) (first_where f l) (ltb-false _ _ e)) ∙ past_all f l
+
 module _ (s : Shard) (v : Id) (b : Board) where
   pub not_seated : says (is_seated_on s) b v ≡ false → false ≡ victim_fit s v b
   unfolding victim_fit ◌and◌
   not_seated n = rw n
 
-  pub seated_fit : says (is_seated_on s) b v ≡ true → (n k : ℕ) → n ≡ length b.rotations → k ≡ first_where (has_party s v) b.rotations → leb n k ≡ victim_fit s v b
+  pub seated_fit : says (is_seated_on s) b v ≡ true → (o : Option ℕ) → o ≡ found_where (has_party s v) b.rotations → (c : Bool) → option.is_some o ≡ not c → c ≡ victim_fit s v b
   unfolding victim_fit ◌and◌ is_party
-  seated_fit y n k ne ke = rw (y, ne, ke) (past_all (has_party s v) b.rotations)
+  seated_fit y o e c n = rw y (twice c (option.is_some o) n ∙ ap option.is_none e ∙ none_found_lem (has_party s v) b.rotations)
+    where
+      twice : (c d : Bool) → d ≡ not c → c ≡ not d
+      twice true d n = rw n
+      twice false d n = rw n
 
 -- ---- the row of a new rotation, and the board after
 
 module _ (s : Shard) (v : Id) (b : Board) where
-  pub no_row : most_rotations ≤ length b.rotations → RowFor s v b most_rotations
-  no_row l = record { full = λ h. l; free = λ h. absurd (omega arith); place = λ h. absurd (omega arith) }
+  -- where the row is past the room for rows, every row is taken
+  pub no_row : (k : ℕ) → ((p : Rotation) → p.shard ≡ s → p.victim ≡ v → k ≡ first_where (rotation_before p) b.rotations) → most_rotations ≤ k → most_rotations ≤ length b.rotations
+  no_row k e l = let p : Rotation = new_rotation s v 0 b in omega (arith, e p refl refl, first_most (rotation_before p) b.rotations)
 
-  pub row_is : length b.rotations < most_rotations → (r : ℕ) → ((p : Rotation) → p.shard ≡ s → p.victim ≡ v → r ≡ first_where (rotation_before p) b.rotations) → RowFor s v b r
-  row_is l r e =
-      let p : Rotation = new_rotation s v 0 b in
-      record { full = λ h. absurd (omega (arith, e p refl refl, first_most (rotation_before p) b.rotations)); free = λ h. l; place = λ h. e }
-
-  module _ (k : ℕ) (f : RowFor s v b k) (h : k < most_rotations) (x : Id) where
+  module _ (k : ℕ) (f : Goes s v b k) (x : Id) where
     pub row_within : k ≤ length b.rotations
-    row_within = let p : Rotation = new_rotation s v x b in omega (arith, f.place h p refl refl, first_most (rotation_before p) b.rotations)
+    row_within = let p : Rotation = new_rotation s v x b in omega (arith, f.place p refl refl, first_most (rotation_before p) b.rotations)
 
     pub opened_at : (after : List ℕ) (entrant epoch : ℕ) → entrant ≡ x → epoch ≡ epoch_of b
         → Holds after (on_rotations (λ t. insert_at t k (record { shard = s; victim = v; entrant = entrant; opened = epoch })) (put_on s (drawn_to s (epoch_of b)) x b)) → Holds after (opened s v x b)
     unfolding put_on join place
     opened_at after entrant epoch e o d =
         let p : Rotation = new_rotation s v x b in
-        rw (open_is_insert_at p b.rotations, ← f.place h p refl refl) (rw (e, o) at d)
+        rw (open_is_insert_at p b.rotations, ← f.place p refl refl) (rw (e, o) at d)
 
 pub seat_rotations : (s : Shard) (move : Place → Place) (x : Id) (b : Board) → (put_on s move x b).rotations ≡ b.rotations
 unfolding put_on join place
@@ -153,6 +174,6 @@ module _ (b : Board) (ok : well_formed b ≡ true) (after : List ℕ) (r : Outco
         let z : length draws - length draws ≡ 0 = omega arith in
         record { told = rw (ok, y, n, z) e; left = rw (ok, y, n) h }
 
-    pub turned : may_rotate s b ≡ true → (t : Turned) → TellsTurn draws after b (rotate_turn s v draws b) t → r ≡ told_of t → Step (rotate s v draws) b after r
+    pub turned : may_rotate s b ≡ true → (t : Result Turn Answer) → TurnTells draws after b (rotate_turn s v draws b) t → r ≡ turn_told t → Step (rotate s v draws) b after r
     unfolding rotate checked
-    turned m t f e = record { told = rw (ok, y, m) (e ∙ alone_told draws after b _ t f); left = rw (ok, y, m) (alone_left draws after b _ t f) }
+    turned m t f e = record { told = rw (ok, y, m) (e ∙ turn_alone draws after b _ t f); left = rw (ok, y, m) (turn_leaves draws after b _ t f) }

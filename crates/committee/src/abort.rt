@@ -18,9 +18,8 @@ fn take_off_entrant(board: &mut [u64], shard: ShardId, i: usize)
         Holds board.new (entrant_left shard.0 (get_or b.rotations i no_rotation) b) }
 {
     let r = rotations::at(board, i);
-    let there = r.shard;
-    if there.0 == shard.0 {
-        moves::take_off(board, Exit::FromSeat, shard, r.entrant);
+    if r.shard == shard {
+        moves::take_off(board, Exit::FromSeat(shard), shard, r.entrant);
     }
 }
 
@@ -29,10 +28,8 @@ pub fn abort_rotations(board: &mut [u64], shard: ShardId)
     ensures { (b : Board) → Holds board.old b → well_formed b ≡ true → Holds board.new (abort_rotations shard.0 b) }
 {
     let n = rotations::rows(board);
-    let mut i: usize = 0;
-    while i < n {
+    for i in 0..n {
         take_off_entrant(board, shard, i);
-        i += 1;
     }
     rotations::drop_of(board, shard);
 }

@@ -8,8 +8,6 @@ ghost use Rattle.board.specs.Layout.{board_size};
 ghost use Rattle.board.specs.Held.{Holds, no_rotation};
 ghost use Rattle.committee.specs.Counted.{counts};
 
-use board::layout::MOST_RESHAPES;
-use board::machines;
 use reshapes::fields;
 use shards::rotations;
 use types::ShardId;
@@ -25,11 +23,10 @@ pub fn is_splitting(board: &[u64], shard: ShardId) -> bool
     requires { length board.now ≡ board_size }
     ensures { (b : Board) → Holds board.now b → well_formed b ≡ true → result ≡ reshape_at split shard.0 b }
 {
-    let i = rows::reshape_row(board, shard);
-    if MOST_RESHAPES <= i {
-        return false;
+    match rows::find_reshape(board, shard) {
+        Some(i) => !fields::is_merge(board, i),
+        None => false,
     }
-    !fields::is_merge(board, i)
 }
 
 fn counts_at(board: &[u64], which: Counted, shard: ShardId, i: usize) -> bool
@@ -38,16 +35,12 @@ fn counts_at(board: &[u64], which: Counted, shard: ShardId, i: usize) -> bool
         result ≡ counts which shard.0 b (get_or b.rotations i no_rotation) }
 {
     let r = rotations::at(board, i);
-    let there = r.shard;
-    if there.0 != shard.0 {
+    if r.shard != shard {
         return false;
     }
     match which {
         Counted::Open => true,
-        Counted::InFlight => {
-            let p = rows::place_of(board, r.entrant);
-            !p.is_ready()
-        }
+        Counted::InFlight => { !rows::place_of(board, r.entrant).is_ready() }
     }
 }
 
@@ -58,10 +51,8 @@ pub fn rotations_on(board: &[u64], which: Counted, shard: ShardId) -> usize
 {
     let n = rotations::rows(board);
     let mut k: usize = 0;
-    let mut i: usize = 0;
-    while i < n {
-        k += machines::bit(counts_at(board, which, shard, i)) as usize;
-        i += 1;
+    for i in 0..n {
+        k += usize::from(counts_at(board, which, shard, i));
     }
     k
 }

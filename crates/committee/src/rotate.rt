@@ -1,5 +1,5 @@
 // Rotate: one shard's turn, with a victim given. It plans, then applies: every refusal comes before the first write.
-ghost use Rattle.std.specs.Prelude.{◌≡◌, [], ◌∷◌, true, not, ◌≤◌, ◌<◌, ◌%◌, eqb, length, get_or, drop};
+ghost use Rattle.std.specs.Prelude.{◌≡◌, [], ◌∷◌, true, not, ◌≤◌, ◌<◌, ◌%◌, eqb, length, get_or, drop, IfSome};
 ghost use Rattle.rules.specs.Lists.{◌and◌};
 ghost use Rattle.rules.specs.Board.{Board, most_machines, most_rotations, epoch_of};
 ghost use Rattle.rules.specs.WellFormed.{is_shard, well_formed};
@@ -7,15 +7,15 @@ ghost use Rattle.rules.specs.Moves.{may_join};
 ghost use Rattle.rules.specs.Places.{may_rotate, victim_fit, rotate_turn, rotate};
 ghost use Rattle.board.specs.Layout.{board_size};
 ghost use Rattle.board.specs.Held.{Holds, no_machine};
-ghost use Rattle.pool.specs.Told.{TellsTurn};
+ghost use Rattle.pool.specs.Told.{TurnTells};
 ghost use Rattle.steps.specs.Inner.{Steps};
-ghost use Rattle.committee.specs.Opened.{RowFor, opened};
+ghost use Rattle.committee.specs.Opened.{Goes, RowFor, opened};
 
 use super::reads;
 use super::reads::Counted;
-use board::layout::{LAST_SHARD, MOST_COMMITTEES, MOST_ROTATIONS};
+use board::layout::{LAST_SHARD, MOST_ROTATIONS};
 use board::{machines, settings};
-use pool::{Found, Turned};
+use pool::Turn;
 use sampling::Reader;
 use shards::rotations;
 use shards::rotations::Rotation;
@@ -51,7 +51,7 @@ fn may_rotate(board: &[u64], shard: ShardId) -> bool
     if !at_interval(board) {
         return false;
     }
-    if MOST_COMMITTEES <= rows::committee_row(board, shard) {
+    if rows::find_committee(board, shard).is_none() {
         return false;
     }
     if reads::is_splitting(board, shard) {
@@ -66,29 +66,33 @@ fn victim_fit(board: &[u64], shard: ShardId, victim: ValidatorId) -> bool
     requires { length board.now ≡ board_size }
     ensures { (b : Board) → Holds board.now b → well_formed b ≡ true → result ≡ victim_fit shard.0 victim.0 b }
 {
-    let p = rows::place_of(board, victim);
-    if !p.is_seated_on(shard) {
+    if !rows::place_of(board, victim).is_seated_on(shard) {
         return false;
     }
-    rotations::count(board) <= rotations::first_party(board, shard, victim)
+    rotations::find_party(board, shard, victim).is_none()
 }
 
-// The row that a rotation of the shard and the victim goes to; 48, past every row, where all are taken.
-fn row_for(board: &[u64], shard: ShardId, victim: ValidatorId) -> usize
+// The row that a rotation of the shard and the victim goes to; none where all are taken.
+fn row_for(board: &[u64], shard: ShardId, victim: ValidatorId) -> Option<usize>
     requires { length board.now ≡ board_size }
-    ensures { (b : Board) → Holds board.now b → RowFor shard.0 victim.0 b result }
+    ensures room { IfSome result (λ k. k < most_rotations) }
+    ensures goes { (b : Board) → Holds board.now b → RowFor shard.0 victim.0 b result }
 {
     if MOST_ROTATIONS <= rotations::count(board) {
-        return MOST_ROTATIONS;
+        return None;
     }
-    rotations::place_for(board, shard, victim)
+    let k = rotations::place_for(board, shard, victim);
+    if MOST_ROTATIONS <= k {
+        return None;
+    }
+    Some(k)
 }
 
 // The machine at row i is seated on the shard, as the entrant of a rotation at row k.
 fn open_at(board: &mut [u64], shard: ShardId, victim: ValidatorId, i: usize, k: usize)
     requires { (length board.old ≡ board_size) × (i < most_machines) × (k < most_rotations) }
     ensures { (b : Board) → Holds board.old b → well_formed b ≡ true → i < length b.machines → may_join shard.0 ((get_or b.machines i no_machine).key ∷ []) b ≡ true →
-        RowFor shard.0 victim.0 b k → Holds board.new (opened shard.0 victim.0 (get_or b.machines i no_machine).key b) }
+        Goes shard.0 victim.0 b k → Holds board.new (opened shard.0 victim.0 (get_or b.machines i no_machine).key b) }
 {
     let m = machines::at(board, i);
     let opened = settings::epoch(board);
@@ -113,32 +117,29 @@ pub fn rotate_turn(
     victim: ValidatorId,
     draws: &[u64],
     at: Reader,
-) -> Turned
+) -> Result<Turn, Answer>
     requires { (length board.old ≡ board_size) × (at.at ≤ length draws.now) }
     ensures { (b : Board) → Holds board.old b → well_formed b ≡ true →
-        TellsTurn draws.now board.new b (rotate_turn shard.0 victim.0 (drop at.at draws.now) b) result }
+        TurnTells draws.now board.new b (rotate_turn shard.0 victim.0 (drop at.at draws.now) b) result }
 {
     if !victim_fit(board, shard, victim) {
-        return Turned::Refused(Answer::VictimUnfit);
+        return Err(Answer::VictimUnfit);
     }
-    let found = pool::draw(board, draws, at);
-    match found {
-        Found::Row(i, left) => {
-            let m = machines::at(board, i);
-            if !joining::may_join(board, shard, m.id) {
-                return Turned::Refused(Answer::NoRoom);
-            }
-            let k = row_for(board, shard, victim);
-            if MOST_ROTATIONS <= k {
-                return Turned::Refused(Answer::NoRoom);
-            }
-            open_at(board, shard, victim, i, k);
-            Turned::Done(1, left)
-        }
-        Found::Nobody => Turned::Done(0, at),
-        Found::Missing => Turned::Refused(Answer::DrawMissing),
-        Found::TooLarge => Turned::Refused(Answer::DrawTooLarge),
+    let Some((i, left)) = pool::draw_one(board, draws, at)? else {
+        return Ok(Turn {
+            handled: 0,
+            left: at,
+        });
+    };
+    let m = machines::at(board, i);
+    if !joining::may_join(board, shard, m.id) {
+        return Err(Answer::NoRoom);
     }
+    let Some(k) = row_for(board, shard, victim) else {
+        return Err(Answer::NoRoom);
+    };
+    open_at(board, shard, victim, i, k);
+    Ok(Turn { handled: 1, left })
 }
 
 // Rotate, for words that are known to hold a well-formed board.
@@ -157,6 +158,6 @@ pub fn run_shuffle_step_held(
     if !may_rotate(board, shard) {
         return steps::done(0, 0);
     }
-    let turned = rotate_turn(board, shard, machine, draws, Reader::start());
-    turned.told()
+    let turn = rotate_turn(board, shard, machine, draws, Reader::start());
+    pool::told(turn)
 }

@@ -10,30 +10,27 @@ use Rattle.types.specs.Numbers.{Shard, Id}
 use Rattle.types.specs.Places.{pooled}
 use Rattle.rules.specs.Lists.{keep}
 use Rattle.rules.specs.Table.{Table, stands}
-use Rattle.rules.specs.Board.{Seat, Reshape, Board, most_members, most_seats}
+use Rattle.rules.specs.Board.{Seat, Reshape, Board, most_members}
 use Rattle.rules.specs.Moves.{members_of, place, for_all}
 use Rattle.rules.proofs.Tests.{by_cases}
 use Rattle.rules.proofs.KeptBoard.{Good, of_good}
 use Rattle.rules.proofs.KeptMoves.{keeps_pooled, good_place_lem, members_good}
 use Rattle.rules.proofs.KeptMoves.{members_at_lem as known-members}
-use Rattle.tables.specs.Rows.{Rising, key_of}
 use Rattle.tables.proofs.Keys.{at_is}
-use Rattle.board.specs.Held.{Holds, no_committee, no_reshape, no_seat}
+use Rattle.board.specs.Held.{Holds, no_committee, no_reshape}
 use Rattle.board.proofs.Fitting.{held_as}
 use Rattle.board.proofs.Keyed.{committees_rise}
-use Rattle.rows.specs.Found.{Found}
-use Rattle.recasting.proofs.Sizes.{found_stands, missing_stands}
 use Rattle.arriving.specs.Coming.{reshape_in}
 use Rattle.cut_merges.specs.Merged.{pooled_unless}
 
 -- ---- one member
 
-module _ (b : Board) (after : List ℕ) (keepers : Table Seat) (x y : Id) (i : y ≡ x) (k : ℕ) (f : Found most_seats y no_seat keepers k) where
-  pub keeper_stays : Rising key_of keepers → k < most_seats → Holds after b → Holds after (pooled_unless keepers x b)
-  keeper_stays r l h = rw (← i, found_stands f r l) h
+module _ (b : Board) (after : List ℕ) (keepers : Table Seat) (x y : Id) (i : y ≡ x) where
+  pub keeper_stays : stands y keepers ≡ true → Holds after b → Holds after (pooled_unless keepers x b)
+  keeper_stays s h = rw (← i, s) h
 
-  pub other_goes : most_seats ≤ k → Holds after (place y pooled b) → Holds after (pooled_unless keepers x b)
-  other_goes l h = rw (← i, missing_stands f l) h
+  pub other_goes : stands y keepers ≡ false → Holds after (place y pooled b) → Holds after (pooled_unless keepers x b)
+  other_goes n h = rw (← i, n) h
 
 -- ---- those who are no keepers
 

@@ -13,7 +13,7 @@ use Rattle.types.specs.Places.{is_seated_on, kept_on}
 use Rattle.types.specs.declared.Place.{Place}
 use Rattle.rules.specs.Lists.{◌or◌}
 use Rattle.rules.specs.Table.{Table, at, keys_of}
-use Rattle.rules.specs.Board.{Seat, Reshape, Board, most_machines, most_seats, on_reshapes}
+use Rattle.rules.specs.Board.{Seat, Reshape, Board, most_seats, on_reshapes}
 use Rattle.rules.specs.WellFormed.{is_shard, well_formed}
 use Rattle.rules.specs.Moves.{place, join, may_join, put_on, for_all}
 use Rattle.rules.specs.Cut.{rejoin}
@@ -29,9 +29,8 @@ use Rattle.board.specs.Held.{Holds, no_machine, no_reshape, no_seat}
 use Rattle.board.proofs.Fitting.{held_as}
 use Rattle.board.proofs.Keyed.{machines_rise}
 use Rattle.pool.proofs.Pools.{keys_none, keys_here}
-use Rattle.rows.specs.Found.{Found}
 use Rattle.arriving.specs.Coming.{reshape_in, MayCome}
-use Rattle.arriving.proofs.Comes.{joins_may, not_both, comes_from, put_as, put_elsewhere}
+use Rattle.arriving.proofs.Comes.{joins_may, not_both, comes_at, put_as, put_elsewhere}
 use Rattle.arriving.proofs.Lists.{for_all_elsewhere}
 
 -- ---- one keeper
@@ -43,41 +42,41 @@ on_child t p = is_seated_on (left_of t) p or is_seated_on (right_of t) p
 pub on_child_lem : (t : Shard) (p : Place) (l r : Bool) → l ≡ is_seated_on (left_of t) p → r ≡ is_seated_on (right_of t) p → (l || r) ≡ on_child t p
 on_child_lem t p l r e f = or_is l r ∙ rw (e, f)
 
-module _ (b : Board) (ok : well_formed b ≡ true) (t : Shard) (x : Id) (row : ℕ) (f : Found most_machines x no_machine b.machines row) where
-  module _ (l : row < most_machines) where
+module _ (b : Board) (ok : well_formed b ≡ true) (t : Shard) (x : Id) where
+  module _ (row : ℕ) (l : row < length b.machines) (s : (get_or b.machines row no_machine).key ≡ x) where
     abbrev here : Place
     here = (get_or b.machines row no_machine).val
 
     pub may_rejoin : 1 ≤ t → MayCome t x b → on_child t here ≡ true → may_join t ((get_or b.machines row no_machine).key ∷ []) b ≡ true
     may_rejoin pos m y =
-        comes_from b ok t x row f l m
+        comes_at b ok t x row l s m
         (⊎_elim (λ u. not_both t (left_of t) here (omega arith) u) (λ u. not_both t (right_of t) here (omega arith) u) (or_cases (is_seated_on (left_of t) here) (is_seated_on (right_of t) here) y))
 
   module _ (after : List ℕ) (keepers : Table Seat) where
-    pub unknown : most_machines ≤ row → Holds after b → Holds after (rejoin t keepers x b)
+    pub unknown : at x b.machines ≡ none → Holds after b → Holds after (rejoin t keepers x b)
     unfolding rejoin
-    unknown l h = rw (f.missing l, rejoin) h
+    unknown n h = rw (n, rejoin) h
 
-    module _ (l : row < most_machines) (k : ℕ) (m : k < length keepers) (r : Rising key_of keepers) (e : (get_or keepers k no_seat).key ≡ x) where
+    module _ (row : ℕ) (l : row < length b.machines) (s : (get_or b.machines row no_machine).key ≡ x) (k : ℕ) (m : k < length keepers) (r : Rising key_of keepers) (e : (get_or keepers k no_seat).key ≡ x) where
       abbrev seat : Seat
       seat = (get_or keepers k no_seat).val
 
-      there : at x b.machines ≡ some (here l)
-      there = at_is b.machines (machines_rise b ok) x row no_machine (f.inside l) (f.named l)
+      there : at x b.machines ≡ some (here row l s)
+      there = at_is b.machines (machines_rise b ok) x row no_machine l s
 
       seat_there : at x keepers ≡ some seat
       seat_there = at_is keepers r x k no_seat m e
 
-      pub elsewhere : on_child t (here l) ≡ false → Holds after b → Holds after (rejoin t keepers x b)
+      pub elsewhere : on_child t (here row l s) ≡ false → Holds after b → Holds after (rejoin t keepers x b)
       unfolding rejoin
       elsewhere n h = rw (there, rejoin, seat_there, n) h
 
-      pub rejoins : on_child t (here l) ≡ true → (p was : Place) (ready : Bool) → was ≡ here l → ready ≡ seat.ready → p ≡ kept_on t ready was
+      pub rejoins : on_child t (here row l s) ≡ true → (p was : Place) (ready : Bool) → was ≡ here row l s → ready ≡ seat.ready → p ≡ kept_on t ready was
           → Holds after (put_on t (λ q. p) (get_or b.machines row no_machine).key b) → Holds after (rejoin t keepers x b)
       unfolding rejoin
       rejoins y p was ready ew er v h =
-          let u : p ≡ kept_on t seat.ready (here l) = rw (ew, er) at v in
-          rw (there, rejoin, seat_there, y) (put_as b ok t x (kept_on t seat.ready) p row (f.inside l) (f.named l) u after h)
+          let u : p ≡ kept_on t seat.ready (here row l s) = rw (ew, er) at v in
+          rw (there, rejoin, seat_there, y) (put_as b ok t x (kept_on t seat.ready) p row l s u after h)
 
 -- ---- what rejoining leaves alone
 

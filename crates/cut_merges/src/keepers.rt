@@ -11,7 +11,7 @@ ghost use Rattle.board.specs.Layout.{board_size};
 ghost use Rattle.board.specs.Held.{Holds, no_seat};
 ghost use Rattle.arriving.specs.Coming.{reshape_in, MayCome};
 
-use board::layout::{MOST_MACHINES, MOST_SEATS};
+use board::layout::MOST_SEATS;
 use board::{committees, machines};
 use reshapes::seats;
 use types::ShardId;
@@ -25,10 +25,9 @@ fn rejoin(board: &mut [u64], near: usize, i: usize, target: ShardId, k: usize)
         Holds board.new (cut.rejoin target.0 (reshape_in i b).seats (get_or (reshape_in i b).seats k no_seat).key b) }
 {
     let seat = seats::at(board, i, k);
-    let row = rows::machine_row(board, seat.id);
-    if MOST_MACHINES <= row {
+    let Some(row) = rows::find_machine(board, seat.id) else {
         return;
-    }
+    };
     let machine = machines::at(board, row);
     let p = machine.place;
     let on_left = p.is_seated_on(target.left());
@@ -48,9 +47,7 @@ pub fn rejoin_all(board: &mut [u64], i: usize, target: ShardId)
 {
     let near = committees::place_of(board, target);
     let n = steps::rows_within(seats::count(board, i), MOST_SEATS);
-    let mut k: usize = 0;
-    while k < n {
+    for k in 0..n {
         rejoin(board, near, i, target, k);
-        k += 1;
     }
 }

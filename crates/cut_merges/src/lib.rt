@@ -4,19 +4,19 @@
 ghost use Rattle.std.specs.Prelude.{◌≡◌, [], true, ◌≤◌, ◌<◌, length, get_or};
 ghost use Rattle.rules.specs.Board.{Board, merge, most_reshapes, last_target};
 ghost use Rattle.rules.specs.WellFormed.{is_word, well_formed};
+ghost use Rattle.rules.specs.Turns.{batch};
 ghost use Rattle.rules.specs.Cut as cut;
 ghost use Rattle.rules.specs.Cut.{recast, fits, cut_merge, cut_merges};
 ghost use Rattle.board.specs.Layout.{board_size};
 ghost use Rattle.board.specs.Held.{Holds, no_reshape};
-ghost use Rattle.pool.specs.Told.{TellsTurn};
-ghost use Rattle.steps.specs.Inner.{Steps};
+ghost use Rattle.pool.specs.Told.{TurnTells};
+ghost use Rattle.steps.specs.Inner.{Step, Steps};
 ghost use Rattle.arriving.specs.Coming.{reshape_in};
-ghost use Rattle.arriving.specs.Handled.{AtMostOne};
+ghost use Rattle.batches.specs.Underway.{Within};
 ghost use Rattle.cut_merges.specs.Merged.{cut_board};
 
 use batches::Which;
-use board::layout::{MOST_BOUNDS, MOST_RESHAPES};
-use pool::Turned;
+use pool::Turn;
 use reshapes::fields;
 use sampling::Reader;
 use shards::bounds;
@@ -24,15 +24,6 @@ use types::{Answer, BlockHeight, Outcome, ShardId};
 
 pub mod keepers;
 pub mod others;
-
-fn larger(m: BlockHeight, n: BlockHeight) -> BlockHeight
-    ensures { result.0 ≡ cut.larger m.0 n.0 }
-{
-    if m.0 <= n.0 {
-        return n;
-    }
-    m
-}
 
 // The merge at row i is carried out. Members go to the pool while their committees stand; the row goes last, since its seats are read till then.
 fn cut_at(board: &mut [u64], i: usize, target: ShardId, height: BlockHeight)
@@ -51,37 +42,53 @@ fn cut_at(board: &mut [u64], i: usize, target: ShardId, height: BlockHeight)
 }
 
 // A shard's turn; where it is refused, every word is as before.
-fn cut_merge(board: &mut [u64], target: ShardId) -> Turned
+fn cut_merge(board: &mut [u64], target: ShardId) -> Result<Turn, Answer>
     requires { length board.old ≡ board_size }
-    ensures { AtMostOne result × ((b : Board) → Holds board.old b → well_formed b ≡ true → TellsTurn [] board.new b (cut_merge target.0 [] b) result) }
+    ensures { Within 0 result × ((b : Board) → Holds board.old b → well_formed b ≡ true → TurnTells [] board.new b (cut_merge target.0 [] b) result) }
 {
+    let left = Reader::start();
     if !rows::is_target(target) {
-        return Turned::Done(0, Reader::start());
+        return Ok(Turn { handled: 0, left });
     }
-    let i = rows::reshape_row(board, target);
-    if MOST_RESHAPES <= i {
-        return Turned::Done(0, Reader::start());
-    }
-    let left = rows::bound_row(board, target.left());
-    if MOST_BOUNDS <= left {
-        return Turned::Refused(Answer::NoBoundary);
-    }
-    let right = rows::bound_row(board, target.right());
-    if MOST_BOUNDS <= right {
-        return Turned::Refused(Answer::NoBoundary);
-    }
+    let Some(i) = rows::find_reshape(board, target) else {
+        return Ok(Turn { handled: 0, left });
+    };
+    let Some(first) = rows::find_bound(board, target.left()) else {
+        return Err(Answer::NoBoundary);
+    };
+    let Some(second) = rows::find_bound(board, target.right()) else {
+        return Err(Answer::NoBoundary);
+    };
     if !arriving::seats_recorded(board, i) {
-        return Turned::Refused(Answer::NoRecord);
+        return Err(Answer::NoRecord);
     }
     if !recasting::merge_fits(board, target) {
-        return Turned::Refused(Answer::NoRoom);
+        return Err(Answer::NoRoom);
     }
-    let height = larger(
-        bounds::height_at(board, left),
-        bounds::height_at(board, right),
-    );
+    let height = bounds::height_at(board, first).max(bounds::height_at(board, second));
     cut_at(board, i, target, height);
-    Turned::Done(1, Reader::start())
+    Ok(Turn { handled: 1, left })
+}
+
+// The turns of those targets, up to the first that is refused.
+fn in_turn(board: &mut [u64], targets: &[u64]) -> Outcome
+    requires { (length board.old ≡ board_size) × (length targets.now ≤ most_reshapes) }
+    ensures { (b : Board) → Holds board.old b → well_formed b ≡ true → Step (λ c. batch cut.cut_merge targets.now [] b) b board.new result }
+{
+    let mut handled: u64 = 0;
+    for target in targets {
+        match cut_merge(board, ShardId(*target)) {
+            Ok(turn) => handled += turn.handled,
+            Err(answer) => {
+                return Outcome {
+                    answer,
+                    handled,
+                    draws_used: 0,
+                };
+            }
+        }
+    }
+    steps::done(handled, 0)
 }
 
 // Cut merges, for words that are known to hold a well-formed board.
@@ -89,25 +96,7 @@ pub fn apply_scheduled_merges_held(board: &mut [u64]) -> Outcome
     requires { length board.old ≡ board_size }
     ensures { Steps cut_merges board.old board.new result }
 {
-    let mut shards = [0u64; 8];
-    let n = batches::targets(board, Which::MergesDue, &mut shards);
-    let mut handled: u64 = 0;
-    let mut i: usize = 0;
-    while i < n {
-        let turned = cut_merge(board, ShardId(shards[i]));
-        match turned {
-            Turned::Done(more, _) => {
-                handled += more;
-            }
-            Turned::Refused(answer) => {
-                return Outcome {
-                    answer: answer,
-                    handled: handled,
-                    draws_used: 0,
-                };
-            }
-        }
-        i += 1;
-    }
-    steps::done(handled, 0)
+    let mut targets = [0u64; 8];
+    let n = batches::targets(board, Which::MergesDue, &mut targets);
+    in_turn(board, &targets[..n])
 }

@@ -7,7 +7,7 @@ use mathlib.Core.Option.{Option, none, some}
 use mathlib.Core.Bool.{Bool, true, false, cond}
 use native.Mathlib.Omega.{arith}
 use native.Mathlib.Numerals.{add-one}
-use borrow.Author.Tests.{ltb-true, ltb-false, lt-ltb, le-ltb, eq-eqb, ne_eqb}
+use borrow.Author.Tests.{ltb-true, ltb-false, lt-ltb, le-ltb}
 use lib.Dec.{eqb, ltb}
 use lib.ListN.{length, get_or, drop, drop_of_length-le, length-append}
 use lib.Seq.{drop-cons}
@@ -28,10 +28,13 @@ use Rattle.rules.proofs.KeptCut.{Settling, settling, may_arrive, settle_keeps}
 use Rattle.board.specs.Held.{Holds, no_reshape, no_seat}
 use Rattle.board.proofs.Fitting.{held_as}
 use Rattle.pool.proofs.Pools.{keys_none, keys_here, keys_past}
+use Rattle.reshapes.specs.declared.Side.{Side}
+use Rattle.reshapes.specs.declared.Side.TheVariants.{Left, Right}
+use Rattle.reshapes.specs.Changes.{half_of}
 use Rattle.arriving.specs.Coming.{reshape_in, MayCome}
 use Rattle.arriving.proofs.Comes.{joins_may, put_elsewhere}
 use Rattle.arriving.proofs.Lists.{for_all_append, for_all_elsewhere}
-use Rattle.cut_splits.specs.Settled.{child_of, half_of, seat_for, turn_of}
+use Rattle.cut_splits.specs.Settled.{child_of, seat_for, turn_of}
 
 -- ---- in which order
 
@@ -78,11 +81,11 @@ module _ (c : Shard) (half : List Id) (seats : Table Seat) (k n : ℕ) (e : n �
     next_seat : get_or seats (k - length half) no_seat ≡ q
     next_seat = rw (← e) (sym s)
 
-    pub turn_seat : q.val.child ≡ c → turn_of c half seats k ≡ q.key ∷ []
-    turn_seat y = rw (le-ltb k (length half) (omega arith), next_seat, eq-eqb q.val.child c y)
+    pub turn_seat : eqb q.val.child c ≡ true → turn_of c half seats k ≡ q.key ∷ []
+    turn_seat y = rw (le-ltb k (length half) (omega arith), next_seat, y)
 
-    pub turn_passed : (q.val.child ≡ c → ⊥) → turn_of c half seats k ≡ []
-    turn_passed y = rw (le-ltb k (length half) (omega arith), next_seat, ne_eqb q.val.child c y)
+    pub turn_passed : eqb q.val.child c ≡ false → turn_of c half seats k ≡ []
+    turn_passed y = rw (le-ltb k (length half) (omega arith), next_seat, y)
 
 module _ (t c : Shard) (seats : Table Seat) (b : Board) (after : List ℕ) (turn : List Id) where
   pub one_settled : (x y : Id) → turn ≡ x ∷ [] → y ≡ x → Holds after (settle t c seats y b) → Holds after (for_all (settle t c seats) turn b)
@@ -95,17 +98,17 @@ module _ (t c : Shard) (seats : Table Seat) (b : Board) (after : List ℕ) (turn
 
 -- ---- a child
 
-pub child_shard : (right : Bool) (t : Shard) → is_target t ≡ true → is_shard (child_of right t) ≡ true
-child_shard true t ok = (family t ok).right
-child_shard false t ok = (family t ok).left
+pub child_shard : (side : Side) (t : Shard) → is_target t ≡ true → is_shard (child_of side t) ≡ true
+child_shard Right t ok = (family t ok).right
+child_shard Left t ok = (family t ok).left
 
-pub child_apart : (right : Bool) (t : Shard) → is_target t ≡ true → child_of right t ≢ t
-child_apart true t ok = omega (arith, (family t ok).least)
-child_apart false t ok = omega (arith, (family t ok).least)
+pub child_apart : (side : Side) (t : Shard) → is_target t ≡ true → child_of side t ≢ t
+child_apart Right t ok = omega (arith, (family t ok).least)
+child_apart Left t ok = omega (arith, (family t ok).least)
 
-pub half_room : (right : Bool) {t : Shard} {r : Reshape} → Fit t r → length (half_of right r) ≤ most_half
-half_room true f = f.right.room
-half_room false f = f.left.room
+pub half_room : (side : Side) {t : Shard} {r : Reshape} → Fit t r → length (half_of side r) ≤ most_half
+half_room Right f = f.right.room
+half_room Left f = f.left.room
 
 -- ---- what settling leaves alone
 
@@ -169,22 +172,22 @@ module _ (t c : Shard) (seats : Table Seat) where
 
 -- ---- k turns are done
 
-pub record Filled (t c : Shard) (right : Bool) (i : ℕ) (b : Board) (k : ℕ) (ws : List ℕ) : Type 0 where
+pub record Filled (t c : Shard) (side : Side) (i : ℕ) (b : Board) (k : ℕ) (ws : List ℕ) : Type 0 where
   pub board : Board
   pub held : Holds ws board
-  pub way : Settling b c (rest c (half_of right (reshape_in i b)) (reshape_in i b).seats k) board
+  pub way : Settling b c (rest c (half_of side (reshape_in i b)) (reshape_in i b).seats k) board
   pub same : board.reshapes ≡ b.reshapes
-  pub whole : for_all (settle t c (reshape_in i b).seats) (rest c (half_of right (reshape_in i b)) (reshape_in i b).seats k) board
-      ≡ settle_child t c (half_of right (reshape_in i b)) (reshape_in i b).seats b
+  pub whole : for_all (settle t c (reshape_in i b).seats) (rest c (half_of side (reshape_in i b)) (reshape_in i b).seats k) board
+      ≡ settle_child t c (half_of side (reshape_in i b)) (reshape_in i b).seats b
 
-module _ (t c : Shard) (right : Bool) (i : ℕ) (b : Board) where
+module _ (t c : Shard) (side : Side) (i : ℕ) (b : Board) where
   abbrev half : List Id
-  half = half_of right (reshape_in i b)
+  half = half_of side (reshape_in i b)
 
   abbrev seats : Table Seat
   seats = (reshape_in i b).seats
 
-  pub none_came : (ws : List ℕ) → Holds ws b → Good b → is_shard c ≡ true → at c b.committees ≡ some [] → length half ≤ most_half → length seats ≤ most_seats → Filled t c right i b 0 ws
+  pub none_came : (ws : List ℕ) → Holds ws b → Good b → is_shard c ≡ true → at c b.committees ≡ some [] → length half ≤ most_half → length seats ≤ most_seats → Filled t c side i b 0 ws
   unfolding settle_child cohort_for
   none_came ws h g ok e m n =
       let all : length (half ++ cohort_for c seats) ≤ most_members = rw length-append (omega (arith, length_keys_where (λ q. eqb q.child c) seats)) in
@@ -196,7 +199,7 @@ module _ (t c : Shard) (right : Bool) (i : ℕ) (b : Board) where
         whole = ap (λ l. for_all (settle t c seats) l b) (rest_begins c half seats);
       }
 
-  module _ (k : ℕ) (ws : List ℕ) (u : Filled t c right i b k ws) where
+  module _ (k : ℕ) (ws : List ℕ) (u : Filled t c side i b k ws) where
     -- the reshape's row is the same all along
     same_row : reshape_in i u.board ≡ reshape_in i b
     same_row = ap (λ (z : Table Reshape). (get_or z i no_reshape).val) u.same
@@ -205,8 +208,8 @@ module _ (t c : Shard) (right : Bool) (i : ℕ) (b : Board) where
     row_stays h = rw u.same h
 
     module _ (n : ℕ) (e : n ≡ length half) where
-      pub half_stays : n ≡ length (half_of right (reshape_in i u.board))
-      half_stays = subst (λ (r : Reshape). n ≡ length (half_of right r)) (sym same_row) e
+      pub half_stays : n ≡ length (half_of side (reshape_in i u.board))
+      half_stays = subst (λ (r : Reshape). n ≡ length (half_of side r)) (sym same_row) e
 
       pub seats_stay : k < n + length seats → k < n + length (reshape_in i u.board).seats
       seats_stay l = subst (λ (r : Reshape). k < n + length r.seats) (sym same_row) l
@@ -215,17 +218,17 @@ module _ (t c : Shard) (right : Bool) (i : ℕ) (b : Board) where
       coming : Settling b c (turn_of c half seats k ++ rest c half seats (k + 1)) u.board
       coming = rw (rest_goes_on c half seats k l) at u.way
 
-      pub may_come : (x : Id) → turn_of c (half_of right (reshape_in i u.board)) (reshape_in i u.board).seats k ≡ x ∷ [] → MayCome c x u.board
+      pub may_come : (x : Id) → turn_of c (half_of side (reshape_in i u.board)) (reshape_in i u.board).seats k ≡ x ∷ [] → MayCome c x u.board
       may_come x e p a n =
-          let own : turn_of c half seats k ≡ x ∷ [] = subst (λ (r : Reshape). turn_of c (half_of right r) r.seats k ≡ x ∷ []) same_row e in
+          let own : turn_of c half seats k ≡ x ∷ [] = subst (λ (r : Reshape). turn_of c (half_of side r) r.seats k ≡ x ∷ []) same_row e in
           joins_may u.way.good (may_arrive x (rest c half seats (k + 1)) p a n (rw own at coming))
 
       pub one_came : c ≢ t → (after : List ℕ)
-          → Holds after (for_all (settle t c (reshape_in i u.board).seats) (turn_of c (half_of right (reshape_in i u.board)) (reshape_in i u.board).seats k) u.board)
-          → Filled t c right i b (k + 1) after
+          → Holds after (for_all (settle t c (reshape_in i u.board).seats) (turn_of c (half_of side (reshape_in i u.board)) (reshape_in i u.board).seats k) u.board)
+          → Filled t c side i b (k + 1) after
       one_came n after h = record {
         board = for_all (settle t c seats) (turn_of c half seats k) u.board;
-        held = subst (λ (r : Reshape). Holds after (for_all (settle t c r.seats) (turn_of c (half_of right r) r.seats k) u.board)) same_row h;
+        held = subst (λ (r : Reshape). Holds after (for_all (settle t c r.seats) (turn_of c (half_of side r) r.seats k) u.board)) same_row h;
         way = for_all_counts (Settling b c) (settle t c seats) (settle_keeps b t c seats n) (turn_of c half seats k) (rest c half seats (k + 1)) u.board coming;
         same = for_all_keeps (Same b) (settle t c seats) (λ x d e. settle_reshapes t c seats x d ∙ e) (turn_of c half seats k) u.board u.same;
         whole = sym (for_all_append (settle t c seats) (turn_of c half seats k) (rest c half seats (k + 1)) u.board)

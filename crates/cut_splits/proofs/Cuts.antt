@@ -33,7 +33,9 @@ use Rattle.batches.specs.declared.Which.TheVariants.{SplitsDue}
 use Rattle.recasting.specs.Recast.{recast_tables}
 use Rattle.recasting.proofs.Families.{recast_is, tables_reshapes, tables_good}
 use Rattle.arriving.specs.Coming.{reshape_in}
-use Rattle.cut_splits.specs.Settled.{half_of, cut_board}
+use Rattle.cut_splits.specs.Settled.{cut_board}
+use Rattle.reshapes.specs.declared.Side.{Side}
+use Rattle.reshapes.specs.Changes.{half_of}
 use Rattle.cut_splits.proofs.Children.{child_elsewhere, child_reshapes}
 
 -- ---- what a turn keeps
@@ -134,10 +136,10 @@ module _ (b : Board) (ok : well_formed b ≡ true) (t : Shard) where
       two_reshapes = child_reshapes t (right_of t) r.seats r.right one ∙ one_reshapes
 
       -- a child filled by the lists of the reshape as it stood before
-      pub filled_by : (after : List ℕ) (d : Board) (c : Shard) (right : Bool) → d.reshapes ≡ b.reshapes
-          → Holds after (settle_child t c (half_of right (reshape_in i d)) (reshape_in i d).seats d) → Holds after (settle_child t c (half_of right r) r.seats d)
-      filled_by after d c right q h =
-          subst (λ (u : Reshape). Holds after (settle_child t c (half_of right u) u.seats d)) (ap (λ (z : Table Reshape). (get_or z i no_reshape).val) q) h
+      pub filled_by : (after : List ℕ) (d : Board) (c : Shard) (side : Side) → d.reshapes ≡ b.reshapes
+          → Holds after (settle_child t c (half_of side (reshape_in i d)) (reshape_in i d).seats d) → Holds after (settle_child t c (half_of side r) r.seats d)
+      filled_by after d c side q h =
+          subst (λ (u : Reshape). Holds after (settle_child t c (half_of side u) u.seats d)) (ap (λ (z : Table Reshape). (get_or z i no_reshape).val) q) h
 
       pub founded_row : i < length founded.reshapes
       founded_row = rw founded_reshapes l

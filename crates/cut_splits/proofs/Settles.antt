@@ -1,17 +1,17 @@
 -- One machine settled, as the code has it: each way out.
-use Prim.Native.Nat.{ℕ, ◌≤◌, ◌<◌}
+use Prim.Native.Nat.{ℕ, ◌<◌}
 use mathlib.Core.Path.{◌≡◌, refl}
 use mathlib.Core.Logic.{◌≢◌}
 use mathlib.Core.List.{List, [], ◌∷◌}
-use mathlib.Core.Option.{some}
+use mathlib.Core.Option.{none, some}
 use mathlib.Core.Bool.{Bool, true, false, false≢true}
-use lib.ListN.{get_or}
+use lib.ListN.{length, get_or}
 use Rattle.types.specs.Numbers.{Shard, Id, Epoch}
 use Rattle.types.specs.Places.{is_seated_on, is_observing, moved_to, seated_from_watch}
 use Rattle.types.specs.declared.Place.{Place}
 use Rattle.types.specs.declared.Place.TheVariants.{Pooled, Seated, Observing, Short, Other}
 use Rattle.rules.specs.Table.{Table, at}
-use Rattle.rules.specs.Board.{Seat, Board, most_machines, most_seats, epoch_of}
+use Rattle.rules.specs.Board.{Seat, Board, epoch_of}
 use Rattle.rules.specs.WellFormed.{well_formed}
 use Rattle.rules.specs.Moves.{may_join, put_on}
 use Rattle.rules.specs.Cut.{settle}
@@ -19,8 +19,7 @@ use Rattle.tables.specs.Rows.{Rising, key_of}
 use Rattle.tables.proofs.Keys.{at_is}
 use Rattle.board.specs.Held.{Holds, no_machine, no_seat}
 use Rattle.board.proofs.Keyed.{machines_rise}
-use Rattle.rows.specs.Found.{Found}
-use Rattle.arriving.proofs.Comes.{not_both, comes_from, put_as}
+use Rattle.arriving.proofs.Comes.{not_both, comes_at, put_as}
 use Rattle.arriving.specs.Coming.{MayCome}
 
 watches_only : (c : Shard) (p : Place) → is_observing p ≡ true → is_seated_on c p ≡ false
@@ -31,41 +30,41 @@ watches_only c Short h = refl
 watches_only c (Other m) h = refl
 
 -- one that is not seated there yet may come
-module _ (b : Board) (ok : well_formed b ≡ true) (c : Shard) (x : Id) (row : ℕ) (f : Found most_machines x no_machine b.machines row) (l : row < most_machines) (m : MayCome c x b) where
+module _ (b : Board) (ok : well_formed b ≡ true) (c : Shard) (x : Id) (row : ℕ) (l : row < length b.machines) (e : (get_or b.machines row no_machine).key ≡ x) (m : MayCome c x b) where
   pub may_move : (t : Shard) → c ≢ t → is_seated_on t (get_or b.machines row no_machine).val ≡ true → may_join c ((get_or b.machines row no_machine).key ∷ []) b ≡ true
-  may_move t n y = comes_from b ok c x row f l m (not_both c t (get_or b.machines row no_machine).val n y)
+  may_move t n y = comes_at b ok c x row l e m (not_both c t (get_or b.machines row no_machine).val n y)
 
   pub may_sit : is_observing (get_or b.machines row no_machine).val ≡ true → may_join c ((get_or b.machines row no_machine).key ∷ []) b ≡ true
-  may_sit w = comes_from b ok c x row f l m (watches_only c (get_or b.machines row no_machine).val w)
+  may_sit w = comes_at b ok c x row l e m (watches_only c (get_or b.machines row no_machine).val w)
 
-module _ (b : Board) (ok : well_formed b ≡ true) (after : List ℕ) (t c : Shard) (seats : Table Seat) (x : Id) (row : ℕ) (f : Found most_machines x no_machine b.machines row) where
-  pub unknown : most_machines ≤ row → Holds after b → Holds after (settle t c seats x b)
+module _ (b : Board) (ok : well_formed b ≡ true) (after : List ℕ) (t c : Shard) (seats : Table Seat) (x : Id) where
+  pub unknown : at x b.machines ≡ none → Holds after b → Holds after (settle t c seats x b)
   unfolding settle
-  unknown l h = rw (f.missing l, settle) h
+  unknown n h = rw (n, settle) h
 
-  module _ (l : row < most_machines) where
+  module _ (row : ℕ) (l : row < length b.machines) (s : (get_or b.machines row no_machine).key ≡ x) where
     abbrev here : Place
     here = (get_or b.machines row no_machine).val
 
     there : at x b.machines ≡ some here
-    there = at_is b.machines (machines_rise b ok) x row no_machine (f.inside l) (f.named l)
+    there = at_is b.machines (machines_rise b ok) x row no_machine l s
 
     module _ (y : is_seated_on t here ≡ true) where
       pub moved : (p : Place) → p ≡ moved_to c here → Holds after (put_on c (λ q. p) (get_or b.machines row no_machine).key b) → Holds after (settle t c seats x b)
       unfolding settle
-      moved p e h = rw (there, settle, y) (put_as b ok c x (moved_to c) p row (f.inside l) (f.named l) e after h)
+      moved p e h = rw (there, settle, y) (put_as b ok c x (moved_to c) p row l s e after h)
 
-    module _ (y : is_seated_on t here ≡ false) (k : ℕ) (g : Found most_seats x no_seat seats k) where
-      pub no_seat_lem : most_seats ≤ k → Holds after b → Holds after (settle t c seats x b)
+    module _ (y : is_seated_on t here ≡ false) where
+      pub no_seat_lem : at x seats ≡ none → Holds after b → Holds after (settle t c seats x b)
       unfolding settle
-      no_seat_lem m h = rw (there, settle, y, g.missing m) h
+      no_seat_lem n h = rw (there, settle, y, n) h
 
-      module _ (m : k < most_seats) (r : Rising key_of seats) where
+      module _ (k : ℕ) (m : k < length seats) (g : (get_or seats k no_seat).key ≡ x) (r : Rising key_of seats) where
         abbrev seat : Seat
         seat = (get_or seats k no_seat).val
 
         seat_there : at x seats ≡ some seat
-        seat_there = at_is seats r x k no_seat (g.inside m) (g.named m)
+        seat_there = at_is seats r x k no_seat m g
 
         pub not_watching : is_observing here ≡ false → Holds after b → Holds after (settle t c seats x b)
         unfolding settle
@@ -77,4 +76,4 @@ module _ (b : Board) (ok : well_formed b ≡ true) (after : List ℕ) (t c : Sha
           unfolding settle
           sits p was ready now ew er en e h =
               let v : p ≡ seated_from_watch c seat.ready (epoch_of b) here = rw (ew, er, en) at e in
-              rw (there, settle, y, seat_there, w) (put_as b ok c x (seated_from_watch c seat.ready (epoch_of b)) p row (f.inside l) (f.named l) v after h)
+              rw (there, settle, y, seat_there, w) (put_as b ok c x (seated_from_watch c seat.ready (epoch_of b)) p row l s v after h)

@@ -1,17 +1,17 @@
 -- In which order a child's committee is filled, and the board of the cut.
-use Rattle.std.specs.Prelude.{ℕ, ◌-◌, List, [], ◌∷◌, Bool, cond, eqb, ltb, length, get_or}
+use Rattle.std.specs.Prelude.{ℕ, ◌-◌, List, [], ◌∷◌, cond, eqb, ltb, length, get_or}
 use Rattle.types.specs.Numbers.{Shard, Id, Height}
 use Rattle.types.specs.Shards.{left_of, right_of}
 use Rattle.rules.specs.Table.{Entry, Table}
 use Rattle.rules.specs.Board.{split, Seat, Reshape, Board}
 use Rattle.rules.specs.Cut.{recast, settle_child}
 use Rattle.board.specs.Held.{no_seat}
+use Rattle.reshapes.specs.declared.Side.{Side}
+use Rattle.reshapes.specs.declared.Side.TheVariants.{Left, Right}
 
-abbrev pub child_of : Bool → Shard → Shard
-child_of right t = cond right (right_of t) (left_of t)
-
-abbrev pub half_of : Bool → Reshape → List Id
-half_of right r = cond right r.right r.left
+abbrev pub child_of : Side → Shard → Shard
+child_of Left t = left_of t
+child_of Right t = right_of t
 
 abbrev pub seat_for : Shard → Entry Seat → List Id
 seat_for c e = cond (eqb e.val.child c) (e.key ∷ []) []

@@ -10,10 +10,11 @@ use lib.Dec.{eqb, ltb}
 use Rattle.rules.specs.Lists.{◌and◌, ◌or◌, every, any, equal}
 use Rattle.rules.specs.WellFormed.{rising}
 use Rattle.rules.proofs.Tests.{and_parts, and_joins, every_parts, every_join, every_none, equal_true}
+use Rattle.std.specs.Prelude.{Option, Some, None}
 use Rattle.tables.specs.Rows.{Row}
 use Rattle.word_tests.specs.Tests.{at, all_pass, any_pass, rises}
 use Rattle.differences.specs.declared.Difference.{Difference}
-use Rattle.differences.specs.declared.Difference.TheVariants.{Gone, New, Changed, Same}
+use Rattle.differences.specs.declared.Difference.TheVariants.{Gone, New, Changed}
 use Rattle.differences.specs.Differ.{from, differ}
 use Rattle.differences.specs.Found.{same_key, Alone, Other, Found}
 
@@ -139,12 +140,12 @@ module _ (pairs : Bool) where
     words = f.words;
   }
 
-  later : (i j : ℕ) (r : List ℕ) (rs qs : List (List ℕ)) (d : Difference) → every (rises pairs r) rs ≡ true → every (rises pairs r) qs ≡ true
+  later : (i j : ℕ) (r : List ℕ) (rs qs : List (List ℕ)) (d : Option Difference) → every (rises pairs r) rs ≡ true → every (rises pairs r) qs ≡ true
       → Found pairs (i + 1) (j + 1) rs qs d → Found pairs i j (r ∷ rs) (r ∷ qs) d
-  later i j r rs qs (Gone k l) u v f = later_alone i j k l r rs qs u f
-  later i j r rs qs (New k l) u v f = later_alone j i l k r qs rs v f
-  later i j r rs qs (Changed k l) u v f = later_other i j k l r rs qs f
-  later i j r rs qs Same u v f = ap (λ (x : List (List ℕ)). r ∷ x) f
+  later i j r rs qs (Some (Gone k l)) u v f = later_alone i j k l r rs qs u f
+  later i j r rs qs (Some (New k l)) u v f = later_alone j i l k r qs rs v f
+  later i j r rs qs (Some (Changed k l)) u v f = later_other i j k l r rs qs f
+  later i j r rs qs None u v f = ap (λ (x : List (List ℕ)). r ∷ x) f
 
   first_alone : (i j : ℕ) (r : List ℕ) (rs qs : List (List ℕ)) → any (same_key pairs r) qs ≡ false → Alone pairs i j (r ∷ rs) qs i j
   first_alone i j r rs qs u = record { both = []; row = r; after = rs; others = qs; first = refl; second = refl; place = omega arith; there = omega arith; alone = u }
@@ -160,7 +161,7 @@ module _ (pairs : Bool) where
     where
       go : (x : Bool) → rises pairs r q ≡ x → (y : Bool) → rises pairs q r ≡ y → (z : Bool) → equal r q ≡ z
           → Found pairs (i + 1) (j + 1) rs qs (differ pairs (i + 1) (j + 1) rs qs)
-          → Found pairs i j (r ∷ rs) (q ∷ qs) (cond x (Gone i j) (cond y (New i j) (cond z (differ pairs (i + 1) (j + 1) rs qs) (Changed i j))))
+          → Found pairs i j (r ∷ rs) (q ∷ qs) (cond x (Some (Gone i j)) (cond y (Some (New i j)) (cond z (differ pairs (i + 1) (j + 1) rs qs) (Some (Changed i j)))))
       go true a y b z c f = first_alone i j r rs (q ∷ qs) (none_keyed r (q ∷ qs) (above r q qs a v))
       go false a true b z c f = first_alone j i q qs (r ∷ rs) (none_keyed q (r ∷ rs) (above q r rs b u))
       go false a false b false c f = record {

@@ -1,43 +1,36 @@
 -- Rows where the code reads them, and a turn of the walk.
 use Prim.Native.Nat.{ℕ, ◌+◌, ◌-◌, ◌*◌, ◌/◌, ◌≤◌, ◌<◌}
 use mathlib.Core.Path.{◌≡◌, refl, ap, sym, ◌∙◌}
-use mathlib.Core.Bool.{Bool, true, false, cond}
+use mathlib.Core.Bool.{Bool, true, false, ◌&&◌, cond}
 use mathlib.Core.List.{List, [], ◌∷◌}
 use native.Mathlib.Omega.{arith}
 use native.Mathlib.Numerals.{add-one}
 use native.Mathlib.Nat.{mul-le-mul_right, div-mul-le_self, mul-div_cancel}
-use borrow.Author.Tests.{eq-eqb, ne_eqb}
+use lib.Dec.{eqb}
+use lib.Pointwise.{pointwise}
 use lib.ListN.{length, get_or, take, drop, drop_of_length-le}
 use lib.Seq.{drop-cons, set-get_or}
+use Rattle.std.specs.Prelude.{Some, None, nat_eq}
 use Rattle.rules.specs.Lists.{◌and◌, equal}
-use Rattle.rules.proofs.Tests.{equal_true}
 use Rattle.tables.specs.Rows.{table, Row, words_in}
 use Rattle.tables.proofs.Tables.{table_length, counted, row_spot, scaled, no_row}
 use Rattle.shifts.proofs.Parts.{spot_read}
 use Rattle.word_tests.specs.Tests.{rises}
-use Rattle.differences.specs.declared.Difference.TheVariants.{Gone, New, Changed, Same}
+use Rattle.differences.specs.declared.Difference.TheVariants.{Gone, New, Changed}
 use Rattle.differences.specs.Differ.{TableOf, from, differ}
 
--- ---- two lists of words compared from the front
+-- ---- two lists of words, as `==` compares them
 
-pub unequal_long : (s t : List ℕ) → (length s ≡ length t → ⊥) → equal s t ≡ false
-unequal_long s t n = go (equal s t) refl
+pub compared : (s t : List ℕ) → pointwise nat_eq s t ≡ equal s t
+unfolding equal ◌and◌
+compared [] [] = refl
+compared [] (y ∷ t) = refl
+compared (x ∷ s) [] = refl
+compared (x ∷ s) (y ∷ t) = go (eqb x y) (compared s t)
   where
-    go : (c : Bool) → equal s t ≡ c → c ≡ false
-    go true e = absurd (n (ap length (equal_true s t e)))
+    go : (c : Bool) → pointwise nat_eq s t ≡ equal s t → (c && pointwise nat_eq s t) ≡ (c and equal s t)
+    go true e = e
     go false e = refl
-
-pub equal_more : (s t : List ℕ) (i : ℕ) → i < length s → i < length t → get_or s i 0 ≡ get_or t i 0 → equal (drop i s) (drop i t) ≡ equal (drop (i + 1) s) (drop (i + 1) t)
-unfolding equal ◌and◌
-equal_more s t i h g e = rw (drop-cons s i 0 h, drop-cons t i 0 g, eq-eqb (get_or s i 0) (get_or t i 0) e, add-one i)
-
-pub equal_less : (s t : List ℕ) (i : ℕ) → i < length s → i < length t → (get_or s i 0 ≡ get_or t i 0 → ⊥) → equal (drop i s) (drop i t) ≡ false
-unfolding equal ◌and◌
-equal_less s t i h g e = rw (drop-cons s i 0 h, drop-cons t i 0 g, ne_eqb (get_or s i 0) (get_or t i 0) e)
-
-pub equal_done : (s t : List ℕ) (i : ℕ) → length s ≤ i → length t ≤ i → equal (drop i s) (drop i t) ≡ true
-unfolding equal
-equal_done s t i h g = rw (drop_of_length-le s {i = i} h, drop_of_length-le t {i = i} g)
 
 -- ---- how many rows there are
 
@@ -74,33 +67,33 @@ module _ {w : ℕ} (rs : List (Row w)) (i : ℕ) where
   from_none h = rw (drop_of_length-le rs {i = i} h)
 
 module _ (pairs : Bool) {w : ℕ} {a b : List ℕ} {rs qs : List (Row w)} (o : TableOf w a rs) (p : TableOf w b qs) (k l : ℕ) where
-  pub first_ends : k < length rs → length qs ≤ l → Gone k l ≡ differ pairs k l (from k rs) (from l qs)
+  pub first_ends : k < length rs → length qs ≤ l → Some (Gone k l) ≡ differ pairs k l (from k rs) (from l qs)
   unfolding differ
   first_ends h g = rw (from_more rs k h, from_none qs l g)
 
-  pub second_ends : length rs ≤ k → l < length qs → New k l ≡ differ pairs k l (from k rs) (from l qs)
+  pub second_ends : length rs ≤ k → l < length qs → Some (New k l) ≡ differ pairs k l (from k rs) (from l qs)
   unfolding differ
   second_ends h g = rw (from_none rs k h, from_more qs l g)
 
-  pub both_end : length rs ≤ k → length qs ≤ l → Same ≡ differ pairs k l (from k rs) (from l qs)
+  pub both_end : length rs ≤ k → length qs ≤ l → None ≡ differ pairs k l (from k rs) (from l qs)
   unfolding differ
   both_end h g = rw (from_none rs k h, from_none qs l g)
 
   -- the two rows as the code has them
   module _ (x y : List ℕ) (ex : x ≡ take w (drop (1 + k * w) a)) (ey : y ≡ take w (drop (1 + l * w) b)) (h : k < length rs) (g : l < length qs) where
     rows_differ : differ pairs k l (from k rs) (from l qs)
-        ≡ cond (rises pairs x y) (Gone k l)
-        (cond (rises pairs y x) (New k l) (cond (equal x y) (differ pairs (k + 1) (l + 1) (from (k + 1) rs) (from (l + 1) qs)) (Changed k l)))
+        ≡ cond (rises pairs x y) (Some (Gone k l))
+        (cond (rises pairs y x) (Some (New k l)) (cond (equal x y) (differ pairs (k + 1) (l + 1) (from (k + 1) rs) (from (l + 1) qs)) (Some (Changed k l))))
     unfolding differ
     rows_differ = rw (from_more rs k h, from_more qs l g, ex, ey, row_is o k h, row_is p l g)
 
-    pub row_gone : rises pairs x y ≡ true → Gone k l ≡ differ pairs k l (from k rs) (from l qs)
+    pub row_gone : rises pairs x y ≡ true → Some (Gone k l) ≡ differ pairs k l (from k rs) (from l qs)
     row_gone r = rw (rows_differ, r)
 
-    pub row_new : rises pairs x y ≡ false → rises pairs y x ≡ true → New k l ≡ differ pairs k l (from k rs) (from l qs)
+    pub row_new : rises pairs x y ≡ false → rises pairs y x ≡ true → Some (New k l) ≡ differ pairs k l (from k rs) (from l qs)
     row_new r q = rw (rows_differ, r, q)
 
-    pub row_changed : rises pairs x y ≡ false → rises pairs y x ≡ false → equal x y ≡ false → Changed k l ≡ differ pairs k l (from k rs) (from l qs)
+    pub row_changed : rises pairs x y ≡ false → rises pairs y x ≡ false → equal x y ≡ false → Some (Changed k l) ≡ differ pairs k l (from k rs) (from l qs)
     row_changed r q e = rw (rows_differ, r, q, e)
 
     pub row_same : rises pairs x y ≡ false → rises pairs y x ≡ false → equal x y ≡ true

@@ -1,9 +1,9 @@
 -- What a difference says of two lists of rows whose keys rise: the rows before it are the same in both, and its key stands in one alone, or in both with other words.
-use Rattle.std.specs.Prelude.{ℕ, ◌+◌, ◌≡◌, Bool, true, false, not, List, ◌∷◌, ◌++◌, eqb, length}
+use Rattle.std.specs.Prelude.{ℕ, ◌+◌, ◌≡◌, Bool, true, false, not, List, ◌∷◌, ◌++◌, eqb, length, Option, Some, None}
 use Rattle.rules.specs.Lists.{◌and◌, ◌or◌, any, equal}
 use Rattle.word_tests.specs.Tests.{at}
 use Rattle.differences.specs.declared.Difference.{Difference}
-use Rattle.differences.specs.declared.Difference.TheVariants.{Gone, New, Changed, Same}
+use Rattle.differences.specs.declared.Difference.TheVariants.{Gone, New, Changed}
 
 -- the first words are the same and, of rows in pairs, the second ones too
 unfoldable pub same_key : Bool → List ℕ → List ℕ → Bool
@@ -35,8 +35,8 @@ pub record Other (pairs : Bool) (i j : ℕ) (rs qs : List (List ℕ)) (k l : ℕ
   pub key : same_key pairs row other ≡ true
   pub words : equal row other ≡ false
 
-abbrev pub Found : Bool → ℕ → ℕ → List (List ℕ) → List (List ℕ) → Difference → Type 0
-Found pairs i j rs qs (Gone k l) = Alone pairs i j rs qs k l
-Found pairs i j rs qs (New k l) = Alone pairs j i qs rs l k
-Found pairs i j rs qs (Changed k l) = Other pairs i j rs qs k l
-Found pairs i j rs qs Same = rs ≡ qs
+abbrev pub Found : Bool → ℕ → ℕ → List (List ℕ) → List (List ℕ) → Option Difference → Type 0
+Found pairs i j rs qs (Some (Gone k l)) = Alone pairs i j rs qs k l
+Found pairs i j rs qs (Some (New k l)) = Alone pairs j i qs rs l k
+Found pairs i j rs qs (Some (Changed k l)) = Other pairs i j rs qs k l
+Found pairs i j rs qs None = rs ≡ qs

@@ -1,9 +1,10 @@
 -- A plan applied: the words hold what the definitions make of the board.
 use Rattle.std.proofs.Common.{◌≡◌, ℕ, ◌+◌, ◌<◌, ◌≤◌, true, cond, eqb, List, [], ◌∷◌, length, get_or, refl, ap, ◌∙◌, arith, get_or-set_same, set-set}
 use mathlib.Core.Option.{none}
+use Rattle.std.specs.Prelude.{Option, Some, None}
 use Rattle.types.specs.Numbers.{Shard, Id, Epoch}
 use Rattle.types.specs.Shards.{left_of, right_of}
-use Rattle.rules.specs.Table.{Entry, Table, at, update}
+use Rattle.rules.specs.Table.{Entry, Table, each, at, update}
 use Rattle.rules.specs.Board.{Boundary, Kind, split, merge, Reshape, Board, last_epoch, on_bounds, on_reshapes, epoch_of}
 use Rattle.rules.specs.WellFormed.{is_stamp, well_formed}
 use Rattle.rules.specs.Moves.{for_all, with_drain_by, with_terminal, old_shards, marked_boundary}
@@ -16,9 +17,10 @@ use Rattle.tables.proofs.Keys.{at_is, update_none}
 use Rattle.board.specs.Held.{Holds, no_boundary, no_reshape}
 use Rattle.board.specs.Leaves.{change_at}
 use Rattle.board.proofs.Keyed.{update_is_change, bounds_rise, reshapes_rise}
-use Rattle.rows.specs.Found.{Found}
+use Rattle.rows.specs.Finds.{FoundAt}
 use Rattle.joining.proofs.Struck.{key_each}
-use Rattle.reshapes.specs.Changes.{with_left, with_right, at_terminal}
+use Rattle.reshapes.specs.Changes.{with_half, at_terminal}
+use Rattle.reshapes.specs.declared.Side.TheVariants.{Left, Right}
 use Rattle.drains.specs.Plans.{RowOf}
 
 -- one row changed twice
@@ -49,12 +51,16 @@ module _ (b : Board) (s : Shard) (f : Boundary → Boundary) (after : List ℕ) 
   marked_none n h = rw (update_none s f b.bounds n) h
 
 -- a row that was found is found where values have changed
-pub found_updated : {A : Type 0} (most k s : ℕ) (f : A → A) (d : Entry A) (t : Table A) (r : ℕ) → Found most k d t r → Found most k d (update s f t) r
+pub found_updated : {A : Type 0} (k s : ℕ) (f : A → A) (d : Entry A) (t : Table A) (r : Option ℕ) → FoundAt k d t r → FoundAt k d (update s f t) r
 unfolding update
-found_updated {A} most k s f d t r g = record { inside = λ h. rw (length_each u t) (g.inside h); named = λ h. key_each u t r d ∙ g.named h; missing = λ h. at_each u k t ∙ rw (g.missing h) }
+found_updated {A} k s f d t r g = go r g
   where
     u : ℕ → A → A
     u j v = cond (eqb j s) (f v) v
+
+    go : (o : Option ℕ) → FoundAt k d t o → FoundAt k d (each u t) o
+    go None m = at_each u k t ∙ rw m
+    go (Some i) m = (rw (length_each u t) m.0, key_each u t i d ∙ m.1)
 
 module _ (b : Board) (t : Shard) (k : Kind) (f : Boundary → Boundary) (after : List ℕ) where
   pub marked_both : k ≡ merge → Holds after (on_bounds (update (right_of t) f) (on_bounds (update (left_of t) f) b)) → Holds after (for_all (λ s. on_bounds (update s f)) (old_shards k t) b)
@@ -93,11 +99,11 @@ module _ (b : Board) (ok : well_formed b ≡ true) (t : Shard) (i : ℕ) (at_i :
       all_marked (marked_boundary (epoch_of b + 1) row.admitted) (old_shards row.kind t) _
       ∙ rw (update_is_change b.reshapes (reshapes_rise b ok) t i no_reshape at_i.inside at_i.named (with_terminal (epoch_of b + 1) left right))
 
-  ended : (terminal : Epoch) → change_at no_reshape i (with_right (λ l. [])) (change_at no_reshape i (with_left (λ l. [])) (change_at no_reshape i (at_terminal terminal) b.reshapes))
+  ended : (terminal : Epoch) → change_at no_reshape i (with_half Right (λ l. [])) (change_at no_reshape i (with_half Left (λ l. [])) (change_at no_reshape i (at_terminal terminal) b.reshapes))
       ≡ change_at no_reshape i (with_terminal terminal [] []) b.reshapes
   ended terminal =
-      ap (change_at no_reshape i (with_right (λ l. []))) (change_twice no_reshape i (at_terminal terminal) (with_left (λ l. [])) b.reshapes at_i.inside)
-      ∙ change_twice no_reshape i (λ v. with_left (λ l. []) (at_terminal terminal v)) (with_right (λ l. [])) b.reshapes at_i.inside
+      ap (change_at no_reshape i (with_half Right (λ l. []))) (change_twice no_reshape i (at_terminal terminal) (with_half Left (λ l. [])) b.reshapes at_i.inside)
+      ∙ change_twice no_reshape i (λ v. with_half Left (λ l. []) (at_terminal terminal v)) (with_half Right (λ l. [])) b.reshapes at_i.inside
 
   module _ (terminal admitted : Epoch) (te : terminal ≡ epoch_of b + 1) (ad : admitted ≡ row.admitted) where
     -- the board with its boundaries marked
@@ -114,6 +120,6 @@ module _ (b : Board) (ok : well_formed b ≡ true) (t : Shard) (i : ℕ) (at_i :
     marked_alone after h = rw (all_marked (marked_boundary terminal admitted) (old_shards row.kind t) b) at h
 
     pub terminal_set : (after : List ℕ)
-        → Holds after (on_reshapes (change_at no_reshape i (with_right (λ l. []))) (on_reshapes (change_at no_reshape i (with_left (λ l. []))) (on_reshapes (change_at no_reshape i (at_terminal terminal)) Marked)))
+        → Holds after (on_reshapes (change_at no_reshape i (with_half Right (λ l. []))) (on_reshapes (change_at no_reshape i (with_half Left (λ l. []))) (on_reshapes (change_at no_reshape i (at_terminal terminal)) Marked)))
         → Holds after (scheduled t row [] [] b)
     terminal_set after h = rw (scheduled_at [] [], ← ended (epoch_of b + 1)) (rw (te, ad) at h)

@@ -1,7 +1,7 @@
 // A reshape on its way to its terminal: ready seats counted, the drain planned, then applied.
 #![tactic(auto)]
 
-ghost use Rattle.std.specs.Prelude.{◌≡◌, ◌+◌, ◌<◌, ◌≤◌, true, [], length, nat_le, slice_index_or};
+ghost use Rattle.std.specs.Prelude.{◌≡◌, ◌+◌, ◌<◌, ◌≤◌, true, [], length, nat_le, slice_index_or, IfSome};
 ghost use Rattle.types.specs.Numbers.{Shard};
 ghost use Rattle.types.specs.Shards.{quorum};
 ghost use Rattle.rules.specs.Table.{update, count_where};
@@ -11,18 +11,18 @@ ghost use Rattle.rules.specs.Moves.{for_all, with_drain_by, old_shards, marked_b
 ghost use Rattle.rules.specs.Schedule.{is_quiet, scheduled, drain_end};
 ghost use Rattle.board.specs.Layout.{board_size};
 ghost use Rattle.board.specs.Held.{Holds, no_boundary, no_reshape, no_seat};
-ghost use Rattle.rows.specs.Found.{Found};
+ghost use Rattle.rows.specs.Finds.{FoundAt};
 ghost use Rattle.drains.specs.Plans.{RowOf, counts_seat, plan_of};
 
-use board::layout::{MOST_BOUNDS, MOST_SEATS};
-use board::{machines, settings};
-use reshapes::{fields, halves, seats};
+use board::layout::MOST_SEATS;
+use board::settings;
+use reshapes::{Side, fields, halves, seats};
 use shards::bounds;
 use types::{Epoch, ShardId};
 
 // ---- ready seats
 
-// Whose ready seats are counted: all, or those of a child.
+// Whose ready seats are counted: all, or those of a child. Kept: an option would say none where all are meant.
 #[derive(Clone, Copy)]
 pub enum Whose {
     All,
@@ -35,13 +35,9 @@ fn counts_at(board: &[u64], i: usize, whose: Whose, k: usize) -> bool
         result ≡ counts_seat whose (slice_index_or (slice_index_or b.reshapes i no_reshape).val.seats k no_seat).val }
 {
     let seat = seats::at(board, i, k);
-    let ready = seat.ready;
     match whose {
-        Whose::All => ready,
-        Whose::Of(child) => {
-            let there = seat.child;
-            (there.0 == child.0) & ready
-        }
+        Whose::All => seat.ready,
+        Whose::Of(child) => (seat.child == child) & seat.ready,
     }
 }
 
@@ -53,10 +49,8 @@ pub fn ready_seats(board: &[u64], i: usize, whose: Whose) -> usize
 {
     let n = steps::rows_within(seats::count(board, i), MOST_SEATS);
     let mut ready: usize = 0;
-    let mut k: usize = 0;
-    while k < n {
-        ready += machines::bit(counts_at(board, i, whose, k)) as usize;
-        k += 1;
+    for k in 0..n {
+        ready += usize::from(counts_at(board, i, whose, k));
     }
     ready
 }
@@ -89,10 +83,10 @@ fn is_quiet(board: &[u64], i: usize) -> bool
     requires { (length board.now ≡ board_size) × (i < most_reshapes) }
     ensures { (b : Board) → Holds board.now b → i < length b.reshapes → result ≡ is_quiet (slice_index_or b.reshapes i no_reshape).val }
 {
-    let left = fields::is_quiet_left(board, i);
+    let left = fields::is_quiet(board, i, Side::Left);
     let merging = fields::is_merge(board, i);
     if merging {
-        return left & fields::is_quiet_right(board, i);
+        return left & fields::is_quiet(board, i, Side::Right);
     }
     left
 }
@@ -135,13 +129,13 @@ pub fn stamp(board: &mut [u64], i: usize)
     fields::set_drain_by(board, i, by);
 }
 
-// The boundary at row k, where one was found for the shard.
-fn mark_found(board: &mut [u64], k: usize, terminal: Epoch, admitted: Epoch)
-    requires { length board.old ≡ board_size }
-    ensures { (b : Board) → Holds board.old b → well_formed b ≡ true → (s : Shard) → Found most_bounds s no_boundary b.bounds k →
+// The boundary, where one was found for the shard.
+fn mark_found(board: &mut [u64], found: Option<usize>, terminal: Epoch, admitted: Epoch)
+    requires { (length board.old ≡ board_size) × IfSome found (λ k. k < most_bounds) }
+    ensures { (b : Board) → Holds board.old b → well_formed b ≡ true → (s : Shard) → FoundAt s no_boundary b.bounds found →
         Holds board.new (on_bounds (update s (marked_boundary terminal.0 admitted.0)) b) }
 {
-    if k < MOST_BOUNDS {
+    if let Some(k) = found {
         bounds::mark(board, k, terminal, admitted);
     }
 }
@@ -154,13 +148,13 @@ fn mark_bounds(board: &mut [u64], target: ShardId, i: usize, terminal: Epoch, ad
 {
     let merging = fields::is_merge(board, i);
     if merging {
-        let left = rows::bound_row(board, target.left());
-        let right = rows::bound_beside(board, left, target.right());
+        let left = rows::find_bound(board, target.left());
+        let right = rows::find_bound_beside(board, left, target.right());
         mark_found(board, left, terminal, admitted);
         mark_found(board, right, terminal, admitted);
         return;
     }
-    let own = rows::bound_row(board, target);
+    let own = rows::find_bound(board, target);
     mark_found(board, own, terminal, admitted);
 }
 
@@ -174,6 +168,6 @@ pub fn schedule(board: &mut [u64], target: ShardId, i: usize)
     let admitted = fields::admitted_at(board, i);
     mark_bounds(board, target, i, terminal, admitted);
     fields::set_terminal(board, i, terminal);
-    halves::clear_left(board, i);
-    halves::clear_right(board, i);
+    halves::clear(board, i, Side::Left);
+    halves::clear(board, i, Side::Right);
 }

@@ -2,9 +2,9 @@
 #![tactic(auto)]
 
 ghost use Rattle.std.specs.Prelude.{◌≡◌};
-ghost use Rattle.draw_readers.specs.Reads.{draw_at, read_by};
+ghost use Rattle.draw_readers.specs.Reads.{draw_at, drawn_by, read_by};
 
-use sampling::{Drawn, Reader};
+use sampling::{DrawError, Reader};
 
 #[derive(Clone, Copy)]
 pub struct DrawReader<'a> {
@@ -12,48 +12,13 @@ pub struct DrawReader<'a> {
     pub at: usize,
 }
 
-// What a draw gives, or why it is refused.
-#[derive(Clone, Copy)]
-pub enum Draw {
-    Index(u64),
-    Missing,
-    TooLarge,
-}
-
-// A draw from a list, and how far the list is read then; a refused draw reads nothing.
-#[derive(Clone, Copy)]
-pub struct DrawAt {
-    pub draw: Draw,
-    pub at: usize,
-}
-
-// The same with the reader handed back.
-#[derive(Clone, Copy)]
-pub struct Read<'a> {
-    pub reader: DrawReader<'a>,
-    pub draw: Draw,
-}
-
-// The work: the draw at a position of a list, at most `most`.
-pub fn draw_at(draws: &[u64], at: usize, most: u64) -> DrawAt
+// The work: the draw at a position of a list, at most `most`, and how far the list is read then; a refused draw reads nothing.
+pub fn draw_at(draws: &[u64], at: usize, most: u64) -> Result<(u64, usize), DrawError>
     ensures { result ≡ draw_at draws.now at most }
 {
     let from = Reader { at };
-    let drawn = from.index(draws, most);
-    match drawn {
-        Drawn::Index(j, left) => DrawAt {
-            draw: Draw::Index(j),
-            at: left.at,
-        },
-        Drawn::Missing => DrawAt {
-            draw: Draw::Missing,
-            at,
-        },
-        Drawn::TooLarge => DrawAt {
-            draw: Draw::TooLarge,
-            at,
-        },
-    }
+    let (index, left) = from.draw_index(draws, most)?;
+    Ok((index, left.at))
 }
 
 impl<'a> DrawReader<'a> {
@@ -64,17 +29,13 @@ impl<'a> DrawReader<'a> {
     }
 
     // The next draw, at most `most`, with the reader moved on; or which refusal, with the reader as it was.
-    pub fn next(self, most: u64) -> Read<'a>
-        ensures { result ≡ read_by self.entry most }
+    pub fn next(&mut self, most: u64) -> Result<u64, DrawError>
+        ensures drawn { result ≡ drawn_by self.old most }
+        ensures read { self.new ≡ read_by self.old most }
     {
-        let step = draw_at(self.draws, self.at, most);
-        Read {
-            reader: DrawReader {
-                draws: self.draws,
-                at: step.at,
-            },
-            draw: step.draw,
-        }
+        let (index, at) = draw_at(self.draws, self.at, most)?;
+        self.at = at;
+        Ok(index)
     }
 
     // How many draws were used.
@@ -85,13 +46,11 @@ impl<'a> DrawReader<'a> {
     }
 }
 
-// The first draw of a list, by a reader.
-pub fn first_draw(draws: &[u64], most: u64) -> DrawAt
+// The first draw of a list, by a reader, and how far the list is read then.
+pub fn first_draw(draws: &[u64], most: u64) -> Result<(u64, usize), DrawError>
     ensures { result ≡ draw_at draws.now 0 most }
 {
-    let read = DrawReader::over(draws).next(most);
-    DrawAt {
-        draw: read.draw,
-        at: read.reader.used(),
-    }
+    let mut reader = DrawReader::over(draws);
+    let index = reader.next(most)?;
+    Ok((index, reader.used()))
 }

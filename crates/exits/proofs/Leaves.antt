@@ -2,9 +2,12 @@
 use Prim.Native.Nat.{ℕ, suc, ◌≤◌, ◌<◌}
 use mathlib.Core.Path.{◌≡◌, refl, ap, sym, ◌∙◌}
 use mathlib.Core.List.{List, [], ◌∷◌}
-use mathlib.Core.Option.{Option}
+use mathlib.Core.Option as maybe
+use mathlib.Core.Option.{none}
 use mathlib.Core.Bool.{Bool, true, false, cond}
 use native.Mathlib.Omega.{arith}
+use borrow.Author.Tests.{ltb-true, ltb-false}
+use lib.Dec.{ltb}
 use lib.ListN.{length, get_or}
 use Rattle.types.specs.Numbers.{Shard, Id}
 use Rattle.types.specs.Places.{is_pooled, short}
@@ -13,8 +16,8 @@ use Rattle.types.specs.declared.Epoch.{Epoch}
 use Rattle.types.specs.declared.Place.{Place}
 use Rattle.types.specs.declared.Place.TheVariants.{Pooled, Seated, Observing, Short, Other}
 use Rattle.rules.specs.Lists.{◌and◌, ◌or◌, any}
-use Rattle.rules.specs.Table.{is_some, holds_at}
-use Rattle.rules.specs.Board.{split, merge, Reshape, Board, most_reshapes, on_rotations}
+use Rattle.rules.specs.Table.{is_some, at, holds_at}
+use Rattle.rules.specs.Board.{split, merge, Reshape, Rotation, Board, on_rotations}
 use Rattle.rules.specs.WellFormed.{well_formed}
 use Rattle.rules.specs.Draws.{Drawn, draw_from}
 use Rattle.rules.specs.Moves.{pool_of, says, place, quit, take_off, has_party, is_party, drop_first, is_kind, give_up_seat}
@@ -25,24 +28,25 @@ use Rattle.tables.specs.Rows.{first_where, remove_at}
 use Rattle.tables.proofs.Keys.{at_is, drop_is_remove_at}
 use Rattle.board.specs.Held.{Holds, no_machine, no_reshape}
 use Rattle.board.proofs.Keyed.{machines_rise, reshapes_rise}
-use Rattle.rows.specs.Found.{Found}
+use Rattle.shards.specs.Rotations.{found_where}
+use Rattle.std.specs.Prelude.{Option, Some, None}
 use Rattle.moves.proofs.Exiting.{split_unless}
 use Rattle.joining.proofs.Struck.{pool_stands}
 
 -- ---- whether a scheduled split stands there, asked at the row that was found
 
-module _ (s : Shard) (b : Board) (ok : well_formed b ≡ true) (i : ℕ) (f : Found most_reshapes s no_reshape b.reshapes i) where
-  pub no_reshape_lem : most_reshapes ≤ i → false ≡ is_carved s b
+module _ (s : Shard) (b : Board) where
+  pub no_reshape_lem : at s b.reshapes ≡ none → false ≡ is_carved s b
   unfolding is_carved holds_at
-  no_reshape_lem l = rw (holds_at, f.missing l)
+  no_reshape_lem n = rw (holds_at, n)
 
-  module _ (l : i < most_reshapes) where
+  module _ (ok : well_formed b ≡ true) (i : ℕ) (l : i < length b.reshapes) (k : (get_or b.reshapes i no_reshape).key ≡ s) where
     abbrev here : Reshape
     here = (get_or b.reshapes i no_reshape).val
 
     asked : is_carved s b ≡ (is_kind split here and is_some here.terminal)
     unfolding is_carved is_scheduled_split
-    asked = holds_at_lem s _ b.reshapes _ (at_is b.reshapes (reshapes_rise b ok) s i no_reshape (f.inside l) (f.named l))
+    asked = holds_at_lem s _ b.reshapes _ (at_is b.reshapes (reshapes_rise b ok) s i no_reshape l k)
 
     pub merge_there : is_kind merge here ≡ true → false ≡ is_carved s b
     unfolding ◌and◌
@@ -73,28 +77,49 @@ module _ {A : Type 0} (f : A → Bool) where
       go true h ih = absurd (omega arith)
       go false h ih = ih (omega arith)
 
-module _ (s : Shard) (x : Id) (b : Board) (k : ℕ) (e : k ≡ first_where (has_party s x) b.rotations) where
-  pub turn_party : (ds : List ℕ) → k < length b.rotations → leave_from_seat s x ds b ≡ finished 0 ds (on_rotations (drop_first (has_party s x)) (leave_seat s x b))
+module _ (f : Rotation → Bool) (l : List Rotation) where
+  found_at : (k : ℕ) → Some k ≡ found_where f l → (k ≡ first_where f l) × (k < length l)
+  found_at k e = go (ltb (first_where f l) (length l)) refl e
+    where
+      go : (c : Bool) → ltb (first_where f l) (length l) ≡ c → Some k ≡ cond c (Some (first_where f l)) None → (k ≡ first_where f l) × (k < length l)
+      go true t e = let q : k ≡ first_where f l = cc in (q, rw q (ltb-true _ _ t))
+      go false t e = let z : ◌≡◌ {A = ℕ} 0 1 = cc in absurd (omega arith)
+
+  found_past : ◌≡◌ {A = Option ℕ} None (found_where f l) → length l ≤ first_where f l
+  found_past e = go (ltb (first_where f l) (length l)) refl e
+    where
+      go : (c : Bool) → ltb (first_where f l) (length l) ≡ c → ◌≡◌ {A = Option ℕ} None (cond c (Some (first_where f l)) None) → length l ≤ first_where f l
+      go true t e = let z : ◌≡◌ {A = ℕ} 0 1 = cc in absurd (omega arith)
+      go false t e = ltb-false _ _ t
+
+module _ (s : Shard) (x : Id) (b : Board) (k : ℕ) (found : Some k ≡ found_where (has_party s x) b.rotations) where
+  pub party_row : k < length b.rotations
+  party_row = (found_at _ _ k found).1
+
+  abbrev e : k ≡ first_where (has_party s x) b.rotations
+  e = (found_at _ _ k found).0
+
+  pub turn_party : (ds : List ℕ) → leave_from_seat s x ds b ≡ finished 0 ds (on_rotations (drop_first (has_party s x)) (leave_seat s x b))
   unfolding leave_from_seat is_party
-  turn_party ds l = rw (first_inside (has_party s x) b.rotations (rw e at l))
+  turn_party ds = rw (first_inside (has_party s x) b.rotations (rw e at party_row))
 
   -- the rotations are as they were, so it goes at the row that was found
   pub party_goes : (after : List ℕ) → Holds after (on_rotations (λ t. remove_at t k) (leave_seat s x b)) → Holds after (on_rotations (drop_first (has_party s x)) (leave_seat s x b))
   unfolding leave_seat take_off place quit give_up_seat
   party_goes after h = rw (drop_is_remove_at (has_party s x) b.rotations, ← e) h
 
-  module _ (l : length b.rotations ≤ k) where
-    no_party : is_party s x b ≡ false
-    unfolding is_party
-    no_party = first_past (has_party s x) b.rotations (rw e at l)
+module _ (s : Shard) (x : Id) (b : Board) (none_found : ◌≡◌ {A = Option ℕ} None (found_where (has_party s x) b.rotations)) where
+  no_party : is_party s x b ≡ false
+  unfolding is_party
+  no_party = first_past (has_party s x) b.rotations (found_past _ _ none_found)
 
-    pub turn_carved : (ds : List ℕ) → is_carved s b ≡ true → leave_from_seat s x ds b ≡ finished 0 ds (leave_seat s x b)
-    unfolding leave_from_seat
-    turn_carved ds c = rw (no_party, c)
+  pub turn_carved : (ds : List ℕ) → is_carved s b ≡ true → leave_from_seat s x ds b ≡ finished 0 ds (leave_seat s x b)
+  unfolding leave_from_seat
+  turn_carved ds c = rw (no_party, c)
 
-    pub turn_draws : (ds : List ℕ) → is_carved s b ≡ false → leave_from_seat s x ds b ≡ pool_draw s false (λ y c. c) ds (leave_seat s x b)
-    unfolding leave_from_seat
-    turn_draws ds c = rw (no_party, c)
+  pub turn_draws : (ds : List ℕ) → is_carved s b ≡ false → leave_from_seat s x ds b ≡ pool_draw s false (λ y c. c) ds (leave_seat s x b)
+  unfolding leave_from_seat
+  turn_draws ds c = rw (no_party, c)
 
 pub left_rotations : (s : Shard) (x : Id) (b : Board) → (leave_seat s x b).rotations ≡ b.rotations
 unfolding leave_seat take_off place quit give_up_seat
@@ -102,7 +127,7 @@ left_rotations s x b = refl
 
 -- ---- a draw on the board as it stands, of one that is not pooled
 
-pub drawn_left : (s : Shard) (x : Id) (b : Board) → well_formed b ≡ true → says is_pooled b x ≡ false → (ds : List ℕ) (d : Drawn (Option Id)) → draw_from (pool_of b) ds ≡ d → draw_from (pool_of (leave_seat s x b)) ds ≡ d
+pub drawn_left : (s : Shard) (x : Id) (b : Board) → well_formed b ≡ true → says is_pooled b x ≡ false → (ds : List ℕ) (d : Drawn (maybe.Option Id)) → draw_from (pool_of b) ds ≡ d → draw_from (pool_of (leave_seat s x b)) ds ≡ d
 drawn_left s x b ok u ds d e = rw (pool_stands s x b ok u) e
 
 -- ---- the machine at row i

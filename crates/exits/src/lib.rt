@@ -10,12 +10,11 @@ ghost use Rattle.rules.specs.Turns.{pool_draw};
 ghost use Rattle.rules.specs.Places.{is_carved, leave_seat, leave_from_seat, leave_from};
 ghost use Rattle.board.specs.Layout.{board_size};
 ghost use Rattle.board.specs.Held.{Holds, no_machine};
-ghost use Rattle.pool.specs.Told.{TellsTurn};
+ghost use Rattle.pool.specs.Told.{TurnTells};
 
-use board::layout::MOST_RESHAPES;
 use board::machines;
 use moves::Exit;
-use pool::{Found, Turned};
+use pool::Turn;
 use reshapes::fields;
 use sampling::Reader;
 use shards::rotations;
@@ -26,10 +25,9 @@ fn is_carved(ws: &[u64], shard: ShardId) -> bool
     requires { length ws.now ≡ board_size }
     ensures { (b : Board) → Holds ws.now b → well_formed b ≡ true → result ≡ is_carved shard.0 b }
 {
-    let i = rows::reshape_row(ws, shard);
-    if MOST_RESHAPES <= i {
+    let Some(i) = rows::find_reshape(ws, shard) else {
         return false;
-    }
+    };
     if fields::is_merge(ws, i) {
         return false;
     }
@@ -55,68 +53,77 @@ fn leave_watch(ws: &mut [u64], shard: ShardId, id: ValidatorId)
 }
 
 // Its seat goes to one drawn from the pool; the draw and the room are asked on the board as it stands.
-fn refill(ws: &mut [u64], shard: ShardId, id: ValidatorId, draws: &[u64], at: Reader) -> Turned
+fn refill(
+    ws: &mut [u64],
+    shard: ShardId,
+    id: ValidatorId,
+    draws: &[u64],
+    at: Reader,
+) -> Result<Turn, Answer>
     requires { (length ws.old ≡ board_size) × (at.at ≤ length draws.now) }
     ensures { (b : Board) → Holds ws.old b → well_formed b ≡ true → says is_pooled b id.0 ≡ false →
-        TellsTurn draws.now ws.new b (pool_draw shard.0 false (λ y c. c) (drop at.at draws.now) (leave_seat shard.0 id.0 b)) result }
+        TurnTells draws.now ws.new b (pool_draw shard.0 false (λ y c. c) (drop at.at draws.now) (leave_seat shard.0 id.0 b)) result }
 {
-    let found = pool::draw(ws, draws, at);
-    match found {
-        Found::Row(k, left) => {
-            let m = machines::at(ws, k);
-            if joining::may_replace(ws, shard, id, m.id) {
-                leave_seat(ws, shard, id);
-                pool::seat_drawn(ws, shard, k);
-                return Turned::Done(1, left);
-            }
-            Turned::Refused(Answer::NoRoom)
-        }
-        Found::Nobody => {
-            leave_seat(ws, shard, id);
-            Turned::Done(0, at)
-        }
-        Found::Missing => Turned::Refused(Answer::DrawMissing),
-        Found::TooLarge => Turned::Refused(Answer::DrawTooLarge),
+    let Some((k, left)) = pool::draw_one(ws, draws, at)? else {
+        leave_seat(ws, shard, id);
+        return Ok(Turn {
+            handled: 0,
+            left: at,
+        });
+    };
+    let m = machines::at(ws, k);
+    if !joining::may_replace(ws, shard, id, m.id) {
+        return Err(Answer::NoRoom);
     }
+    leave_seat(ws, shard, id);
+    pool::seat_drawn(ws, shard, k);
+    Ok(Turn { handled: 1, left })
 }
 
 // Off a seat: nobody is drawn for a party of a rotation, which goes with it, nor onto a shard that is carved.
-fn exit_seat(ws: &mut [u64], shard: ShardId, id: ValidatorId, draws: &[u64], at: Reader) -> Turned
+fn exit_seat(
+    ws: &mut [u64],
+    shard: ShardId,
+    id: ValidatorId,
+    draws: &[u64],
+    at: Reader,
+) -> Result<Turn, Answer>
     requires { (length ws.old ≡ board_size) × (at.at ≤ length draws.now) }
     ensures { (b : Board) → Holds ws.old b → well_formed b ≡ true → says is_pooled b id.0 ≡ false →
-        TellsTurn draws.now ws.new b (leave_from_seat shard.0 id.0 (drop at.at draws.now) b) result }
+        TurnTells draws.now ws.new b (leave_from_seat shard.0 id.0 (drop at.at draws.now) b) result }
 {
-    let k = rotations::first_party(ws, shard, id);
-    if k < rotations::count(ws) {
+    if let Some(k) = rotations::find_party(ws, shard, id) {
         leave_seat(ws, shard, id);
         rotations::close(ws, k);
-        return Turned::Done(0, at);
+        return Ok(Turn {
+            handled: 0,
+            left: at,
+        });
     }
     if is_carved(ws, shard) {
         leave_seat(ws, shard, id);
-        return Turned::Done(0, at);
+        return Ok(Turn {
+            handled: 0,
+            left: at,
+        });
     }
     refill(ws, shard, id, draws, at)
 }
 
 // The machine at row i leaves its place, short of stake.
-pub fn exit_placement(ws: &mut [u64], i: usize, draws: &[u64], at: Reader) -> Turned
+pub fn exit_placement(ws: &mut [u64], i: usize, draws: &[u64], at: Reader) -> Result<Turn, Answer>
     requires { (length ws.old ≡ board_size) × (i < most_machines) × (at.at ≤ length draws.now) }
     ensures { (b : Board) → Holds ws.old b → well_formed b ≡ true → i < length b.machines →
-        TellsTurn draws.now ws.new b (leave_from (get_or b.machines i no_machine).val (get_or b.machines i no_machine).key (drop at.at draws.now) b) result }
+        TurnTells draws.now ws.new b (leave_from (get_or b.machines i no_machine).val (get_or b.machines i no_machine).key (drop at.at draws.now) b) result }
 {
     let m = machines::at(ws, i);
-    let id = m.id;
-    let p = m.place;
-    match p {
-        Place::Seated { shard, .. } => exit_seat(ws, shard, id, draws, at),
-        Place::Observing { shard, .. } => {
-            leave_watch(ws, shard, id);
-            Turned::Done(0, at)
-        }
-        _ => {
-            joining::put_place(ws, i, p.short());
-            Turned::Done(0, at)
-        }
+    match m.place {
+        Place::Seated { shard, .. } => return exit_seat(ws, shard, m.id, draws, at),
+        Place::Observing { shard, .. } => leave_watch(ws, shard, m.id),
+        _ => joining::put_place(ws, i, m.place.short()),
     }
+    Ok(Turn {
+        handled: 0,
+        left: at,
+    })
 }

@@ -1,7 +1,7 @@
 // What refuses an admission before its draws.
 #![tactic(auto)]
 
-ghost use Rattle.std.specs.Prelude.{◌≡◌, true, ◌≤◌, length};
+ghost use Rattle.std.specs.Prelude.{◌≡◌, true, ◌≤◌, length, OnOk};
 ghost use Rattle.rules.specs.Table.{stands};
 ghost use Rattle.rules.specs.Board.{Board, last_target};
 ghost use Rattle.rules.specs.WellFormed.{well_formed};
@@ -11,18 +11,11 @@ ghost use Rattle.rules.specs.Reshapes.{family_free};
 ghost use Rattle.board.specs.Layout.{board_size};
 ghost use Rattle.board.specs.Held.{Holds};
 ghost use Rattle.reshapes.specs.Changes.{kind_of};
-ghost use Rattle.families.specs.Faults.{Within, TellsFaults};
+ghost use Rattle.families.specs.Faults.{TellsFaults};
 
-use board::layout::{MOST_BOUNDS, MOST_COMMITTEES, MOST_RESHAPES};
+use board::layout::MOST_RESHAPES;
 use reshapes::fields;
 use types::{Answer, ShardId};
-
-// An admission so far: nothing against it, or the answer that refuses it.
-#[derive(Clone, Copy)]
-pub enum Admission {
-    Granted,
-    Refused(Answer),
-}
 
 // Two families share a shard where one target is the other's or its parent.
 pub fn overlaps(t: ShardId, u: ShardId) -> bool
@@ -30,7 +23,7 @@ pub fn overlaps(t: ShardId, u: ShardId) -> bool
 {
     let above = t.parent();
     let below = u.parent();
-    (t.0 == u.0) | (below.0 == t.0) | (above.0 == u.0)
+    (t == u) | (below == t) | (above == u)
 }
 
 // No reshape names a shard of the target's family.
@@ -39,12 +32,10 @@ fn family_free(board: &[u64], target: ShardId) -> bool
     ensures { (b : Board) → Holds board.now b → result ≡ family_free target.0 b }
 {
     let n = steps::rows_within(fields::count(board), MOST_RESHAPES);
-    let mut i: usize = 0;
-    while i < n {
+    for i in 0..n {
         if overlaps(target, fields::target_at(board, i)) {
             return false;
         }
-        i += 1;
     }
     true
 }
@@ -53,14 +44,14 @@ pub fn has_committee(board: &[u64], shard: ShardId) -> bool
     requires { length board.now ≡ board_size }
     ensures { (b : Board) → Holds board.now b → well_formed b ≡ true → result ≡ stands shard.0 b.committees }
 {
-    rows::committee_row(board, shard) < MOST_COMMITTEES
+    rows::find_committee(board, shard).is_some()
 }
 
 pub fn has_bound(board: &[u64], shard: ShardId) -> bool
     requires { length board.now ≡ board_size }
     ensures { (b : Board) → Holds board.now b → well_formed b ≡ true → result ≡ stands shard.0 b.bounds }
 {
-    rows::bound_row(board, shard) < MOST_BOUNDS
+    rows::find_bound(board, shard).is_some()
 }
 
 // The shards that live before the cut have a committee, and those it makes have none.
@@ -83,31 +74,31 @@ pub fn bounds_stand(board: &[u64], merging: bool, target: ShardId) -> bool
     ensures { (b : Board) → Holds board.now b → well_formed b ≡ true → result ≡ bounds_stand (kind_of merging) target.0 b }
 {
     if merging {
-        let left = rows::bound_row(board, target.left());
-        if MOST_BOUNDS <= left {
+        let Some(left) = rows::find_bound(board, target.left()) else {
             return false;
-        }
-        return rows::bound_after(board, left, target.right()) < MOST_BOUNDS;
+        };
+        return rows::find_bound_after(board, left, target.right()).is_some();
     }
     has_bound(board, target)
 }
 
 // 3, 7 and 5, the first fault deciding.
-pub fn admission_faults(board: &[u64], merging: bool, target: ShardId) -> Admission
+pub fn admission_faults(board: &[u64], merging: bool, target: ShardId) -> Result<(), Answer>
     requires { length board.now ≡ board_size }
-    ensures { Within target.0 result × ((b : Board) → Holds board.now b → well_formed b ≡ true → TellsFaults (kind_of merging) target.0 b result) }
+    ensures within { OnOk result (target.0 ≤ last_target) }
+    ensures tells { (b : Board) → Holds board.now b → well_formed b ≡ true → TellsFaults (kind_of merging) target.0 b result }
 {
     if !rows::is_target(target) {
-        return Admission::Refused(Answer::OutOfRange);
+        return Err(Answer::OutOfRange);
     }
     if !family_free(board, target) {
-        return Admission::Refused(Answer::FamilyTaken);
+        return Err(Answer::FamilyTaken);
     }
     if !committees_fit(board, merging, target) {
-        return Admission::Refused(Answer::FamilyTaken);
+        return Err(Answer::FamilyTaken);
     }
     if !bounds_stand(board, merging, target) {
-        return Admission::Refused(Answer::NoBoundary);
+        return Err(Answer::NoBoundary);
     }
-    Admission::Granted
+    Ok(())
 }

@@ -9,14 +9,14 @@ use Rattle.fault_lines.specs.declared.ReshapeFault.{ReshapeFault}
 use Rattle.fault_lines.specs.declared.ReshapeFault.TheVariants.{Overlapping, Unfounded}
 
 -- the shard is the committee's or the split's
-unfoldable pub machine_wrong : MachineFault → ℕ → List ℕ
-machine_wrong StrayMember shard = named " is in the committee of shard " shard ++ bytes ", and not there"
-machine_wrong Unlisted shard = bytes " is in no committee of its shard, or watches without a seat"
-machine_wrong AbsentSeat shard = named " has a seat in the split of shard " shard ++ bytes ", and does not watch it"
-machine_wrong Unhalved shard = named " is not in exactly one half of the split of shard " shard
+unfoldable pub machine_wrong : MachineFault → List ℕ
+machine_wrong (StrayMember shard) = named " is in the committee of shard " shard.0 ++ bytes ", and not there"
+machine_wrong Unlisted = bytes " is in no committee of its shard, or watches without a seat"
+machine_wrong (AbsentSeat shard) = named " has a seat in the split of shard " shard.0 ++ bytes ", and does not watch it"
+machine_wrong (Unhalved shard) = named " is not in exactly one half of the split of shard " shard.0
 
-unfoldable pub machine_fault_text : MachineFault → ℕ → ℕ → List ℕ
-machine_fault_text f id shard = named "  machine " id ++ machine_wrong f shard
+unfoldable pub machine_fault_text : MachineFault → ℕ → List ℕ
+machine_fault_text f id = named "  machine " id ++ machine_wrong f
 
 unfoldable pub rotation_fault_text : ℕ → ℕ → ℕ → List ℕ
 rotation_fault_text shard victim entrant = named "  shard " shard ++ named ": rotation of " victim ++ named " and " entrant
@@ -27,9 +27,9 @@ rotation_wrong SharedParty = bytes "    it shares a machine with another rotatio
 rotation_wrong SplitThere = bytes "    a scheduled split stands there"
 
 -- `other` is the target of the reshape that it overlaps
-unfoldable pub reshape_wrong : ReshapeFault → ℕ → List ℕ
-reshape_wrong Overlapping other = named ": its family overlaps that of the reshape at shard " other
-reshape_wrong Unfounded other = bytes ": a committee, a gap or a boundary of its admission is missing"
+unfoldable pub reshape_wrong : ReshapeFault → List ℕ
+reshape_wrong (Overlapping other) = named ": its family overlaps that of the reshape at shard " other.0
+reshape_wrong Unfounded = bytes ": a committee, a gap or a boundary of its admission is missing"
 
-unfoldable pub reshape_fault_text : ReshapeFault → ℕ → ℕ → List ℕ
-reshape_fault_text f target other = named "  reshape at shard " target ++ reshape_wrong f other
+unfoldable pub reshape_fault_text : ReshapeFault → ℕ → List ℕ
+reshape_fault_text f target = named "  reshape at shard " target ++ reshape_wrong f

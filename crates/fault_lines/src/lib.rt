@@ -6,16 +6,17 @@ ghost use Rattle.fault_lines.specs.Faults.{machine_wrong, machine_fault_text, ro
 
 use lines::put_text;
 use phrases::put_named;
+use shards::rotations::Rotation;
 use types::{ShardId, ValidatorId};
 
 // A member that is not there, a machine that no committee or seat lists, a seat whose machine does not watch, a machine in
-// no half of a scheduled split or in both.
+// no half of a scheduled split or in both. The shard is the committee's or the split's.
 #[derive(Clone, Copy)]
 pub enum MachineFault {
-    StrayMember,
+    StrayMember(ShardId),
     Unlisted,
-    AbsentSeat,
-    Unhalved,
+    AbsentSeat(ShardId),
+    Unhalved(ShardId),
 }
 
 // Parties that do not sit there, a party shared with another one, a scheduled split there.
@@ -26,19 +27,19 @@ pub enum RotationFault {
     SplitThere,
 }
 
-// Two families that overlap, a reshape without what its admission asks for.
+// A family that overlaps that of the reshape with this target, a reshape without what its admission asks for.
 #[derive(Clone, Copy)]
 pub enum ReshapeFault {
-    Overlapping,
+    Overlapping(ShardId),
     Unfounded,
 }
 
-fn put_machine_wrong(line: &mut [u8], at: usize, fault: MachineFault, shard: u64) -> usize
-    ensures { Puts line.old at (machine_wrong fault shard) line.new result }
+fn put_machine_wrong(line: &mut [u8], at: usize, fault: MachineFault) -> usize
+    ensures { Puts line.old at (machine_wrong fault) line.new result }
 {
     match fault {
-        MachineFault::StrayMember => {
-            let a = put_named(line, at, b" is in the committee of shard ", shard);
+        MachineFault::StrayMember(shard) => {
+            let a = put_named(line, at, b" is in the committee of shard ", shard.0);
             put_text(line, a, b", and not there")
         }
         MachineFault::Unlisted => put_text(
@@ -46,45 +47,32 @@ fn put_machine_wrong(line: &mut [u8], at: usize, fault: MachineFault, shard: u64
             at,
             b" is in no committee of its shard, or watches without a seat",
         ),
-        MachineFault::AbsentSeat => {
-            let a = put_named(line, at, b" has a seat in the split of shard ", shard);
+        MachineFault::AbsentSeat(shard) => {
+            let a = put_named(line, at, b" has a seat in the split of shard ", shard.0);
             put_text(line, a, b", and does not watch it")
         }
-        MachineFault::Unhalved => put_named(
+        MachineFault::Unhalved(shard) => put_named(
             line,
             at,
             b" is not in exactly one half of the split of shard ",
-            shard,
+            shard.0,
         ),
     }
 }
 
-// The shard is the committee's or the split's.
-pub fn put_machine_fault(
-    line: &mut [u8],
-    at: usize,
-    fault: MachineFault,
-    id: ValidatorId,
-    shard: ShardId,
-) -> usize
-    ensures { Puts line.old at (machine_fault_text fault id.0 shard.0) line.new result }
+pub fn put_machine_fault(line: &mut [u8], at: usize, fault: MachineFault, id: ValidatorId) -> usize
+    ensures { Puts line.old at (machine_fault_text fault id.0) line.new result }
 {
     let a = put_named(line, at, b"  machine ", id.0);
-    put_machine_wrong(line, a, fault, shard.0)
+    put_machine_wrong(line, a, fault)
 }
 
-pub fn put_rotation_fault(
-    line: &mut [u8],
-    at: usize,
-    shard: ShardId,
-    victim: ValidatorId,
-    entrant: ValidatorId,
-) -> usize
-    ensures { Puts line.old at (rotation_fault_text shard.0 victim.0 entrant.0) line.new result }
+pub fn put_rotation_fault(line: &mut [u8], at: usize, rotation: Rotation) -> usize
+    ensures { Puts line.old at (rotation_fault_text rotation.shard.0 rotation.victim.0 rotation.entrant.0) line.new result }
 {
-    let a = put_named(line, at, b"  shard ", shard.0);
-    let b = put_named(line, a, b": rotation of ", victim.0);
-    put_named(line, b, b" and ", entrant.0)
+    let a = put_named(line, at, b"  shard ", rotation.shard.0);
+    let b = put_named(line, a, b": rotation of ", rotation.victim.0);
+    put_named(line, b, b" and ", rotation.entrant.0)
 }
 
 pub fn put_rotation_wrong(line: &mut [u8], at: usize, fault: RotationFault) -> usize
@@ -105,15 +93,15 @@ pub fn put_rotation_wrong(line: &mut [u8], at: usize, fault: RotationFault) -> u
     }
 }
 
-fn put_reshape_wrong(line: &mut [u8], at: usize, fault: ReshapeFault, other: u64) -> usize
-    ensures { Puts line.old at (reshape_wrong fault other) line.new result }
+fn put_reshape_wrong(line: &mut [u8], at: usize, fault: ReshapeFault) -> usize
+    ensures { Puts line.old at (reshape_wrong fault) line.new result }
 {
     match fault {
-        ReshapeFault::Overlapping => put_named(
+        ReshapeFault::Overlapping(other) => put_named(
             line,
             at,
             b": its family overlaps that of the reshape at shard ",
-            other,
+            other.0,
         ),
         ReshapeFault::Unfounded => put_text(
             line,
@@ -123,16 +111,9 @@ fn put_reshape_wrong(line: &mut [u8], at: usize, fault: ReshapeFault, other: u64
     }
 }
 
-// `other` is the target of the reshape that it overlaps.
-pub fn put_reshape_fault(
-    line: &mut [u8],
-    at: usize,
-    fault: ReshapeFault,
-    target: ShardId,
-    other: ShardId,
-) -> usize
-    ensures { Puts line.old at (reshape_fault_text fault target.0 other.0) line.new result }
+pub fn put_reshape_fault(line: &mut [u8], at: usize, fault: ReshapeFault, target: ShardId) -> usize
+    ensures { Puts line.old at (reshape_fault_text fault target.0) line.new result }
 {
     let a = put_named(line, at, b"  reshape at shard ", target.0);
-    put_reshape_wrong(line, a, fault, other.0)
+    put_reshape_wrong(line, a, fault)
 }

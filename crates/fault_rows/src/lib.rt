@@ -40,6 +40,7 @@ fn row_below(i: usize, most: usize) -> usize
     0
 }
 
+// The four functions have an arm for each clause, as their definitions have: a clause is read across in one order.
 pub fn rows_outside(clause: Clause, board: &[u64]) -> usize
     requires { length board.now ≡ board_size }
     ensures { (b : Board) → Holds board.now b → result ≡ rows_outside clause b }

@@ -32,9 +32,9 @@ seat_asked b e x m c i j = rw (split_unless e.val m (sym i), ← j) (go m)
     go true = refl
     go false = refl
 
-pub parties_asked : (b : Board) (r : Rotation) (c d : Bool) → c ≡ says (is_seated_on r.shard) b r.victim → d ≡ says (is_seated_on r.shard) b r.entrant
-    → (not (eqb r.entrant r.victim) && (c && d)) ≡ parties_sit b r
-parties_asked b r c d i j = rw (← i, ← j, and_is c) (and_is _ _)
+pub parties_asked : (b : Board) (r : Rotation) (a c d : Bool) → a ≡ not (eqb r.entrant r.victim) → c ≡ says (is_seated_on r.shard) b r.victim → d ≡ says (is_seated_on r.shard) b r.entrant
+    → (a && (c && d)) ≡ parties_sit b r
+parties_asked b r a c d h i j = rw (h, ← i, ← j, and_is c) (and_is _ _)
 
 -- ---- a scheduled split
 
@@ -43,9 +43,9 @@ module _ (e : Entry Reshape) (m t : Bool) (i : m ≡ is_kind merge e.val) (j : t
   unfolding is_scheduled_split
   scheduled_is = rw (split_unless e.val m (sym i), ← j) (and_is _ _)
 
-  pub rotation_asked : (s : Shard) (r q : Rotation) → s ≡ e.key → r ≡ q → ((not m && t) && is_on s r) ≡ not (leaves_alone e q)
+  pub rotation_asked : (s : Shard) (r q : Rotation) (h : Bool) → h ≡ is_on s r → s ≡ e.key → r ≡ q → ((not m && t) && h) ≡ not (leaves_alone e q)
   unfolding ◌or◌
-  rotation_asked s r q k n = rw (scheduled_is, k, n) (go (is_scheduled_split e.val) (is_on e.key q))
+  rotation_asked s r q h o k n = rw (o, scheduled_is, k, n) (go (is_scheduled_split e.val) (is_on e.key q))
     where
       go : (c d : Bool) → (c && d) ≡ not (not c or not d)
       go true true = refl

@@ -1,5 +1,7 @@
 // For each clause of the seat check the next row, from a place on, that breaks it; the end of the rows where none does.
 // Which test of the row failed is asked of occupancy, parties, carved and families.
+// A number and no option: the definitions name the end of the rows too, and a walk goes on from what it is told.
+// Each finder has its loop: a closure in its place would need clauses of its own for what the board holds.
 #![tactic(auto)]
 
 ghost use Rattle.std.specs.Prelude.{◌≡◌, true, ◌<◌, ◌≤◌, length};
@@ -23,15 +25,13 @@ pub fn next_stray_member(board: &[u64], j: usize, at: usize) -> usize
 {
     let shard = committees::shard_at(board, j);
     let n = steps::rows_within(committees::member_count(board, j), MOST_MEMBERS);
-    let mut k = at;
-    while k < n {
+    for k in at..n {
         let p = rows::place_of(board, committees::member_at(board, j, k));
         if !(p.is_seated_on(shard) | p.observes_shard(shard)) {
             return k;
         }
-        k += 1;
     }
-    k
+    at.max(n)
 }
 
 // A machine on a shard that is not in its committee, or that observes it and has no seat in a split there.
@@ -40,14 +40,12 @@ pub fn next_unlisted_machine(board: &[u64], at: usize) -> usize
     ensures { (at ≤ result) × ((b : Board) → Holds board.now b → well_formed b ≡ true → result ≡ unlisted_machine b at) }
 {
     let n = steps::rows_within(machines::count(board), MOST_MACHINES);
-    let mut i = at;
-    while i < n {
+    for i in at..n {
         if !occupancy::is_listed(board, machines::at(board, i)) {
             return i;
         }
-        i += 1;
     }
-    i
+    at.max(n)
 }
 
 // A seat in the split at i whose machine does not observe its target.
@@ -58,16 +56,14 @@ pub fn next_absent_seat(board: &[u64], i: usize, at: usize) -> usize
     let merging = fields::is_merge(board, i);
     let target = fields::target_at(board, i);
     let n = steps::rows_within(reshape_seats::count(board, i), MOST_SEATS);
-    let mut k = at;
-    while k < n {
+    for k in at..n {
         let seat = reshape_seats::at(board, i, k);
         let p = rows::place_of(board, seat.id);
         if !(merging | p.observes_shard(target)) {
             return k;
         }
-        k += 1;
     }
-    k
+    at.max(n)
 }
 
 // ---- rotations
@@ -78,20 +74,15 @@ pub fn next_unseated_rotation(board: &[u64], at: usize) -> usize
     ensures { (at ≤ result) × ((b : Board) → Holds board.now b → well_formed b ≡ true → result ≡ unseated_rotation b at) }
 {
     let n = rotations::rows(board);
-    let mut i = at;
-    while i < n {
+    for i in at..n {
         let r = rotations::at(board, i);
-        let shard = r.shard;
-        let victim = r.victim;
-        let entrant = r.entrant;
-        let seated = parties::sits_on(board, shard, victim)
-            & parties::sits_on(board, shard, entrant);
-        if !((entrant.0 != victim.0) & seated) {
+        let seated = parties::sits_on(board, r.shard, r.victim)
+            & parties::sits_on(board, r.shard, r.entrant);
+        if !((r.entrant != r.victim) & seated) {
             return i;
         }
-        i += 1;
     }
-    i
+    at.max(n)
 }
 
 // A rotation that shares its shard and a party with the one at i.
@@ -101,14 +92,12 @@ pub fn next_sharing_rotation(board: &[u64], i: usize, at: usize) -> usize
 {
     let p = rotations::at(board, i);
     let n = rotations::rows(board);
-    let mut k = at;
-    while k < n {
+    for k in at..n {
         if parties::share_party(p, rotations::at(board, k)) {
             return k;
         }
-        k += 1;
     }
-    k
+    at.max(n)
 }
 
 // ---- scheduled splits
@@ -121,16 +110,13 @@ pub fn next_rotation_there(board: &[u64], i: usize, at: usize) -> usize
     let scheduled = !fields::is_merge(board, i) & fields::is_scheduled(board, i);
     let target = fields::target_at(board, i);
     let n = rotations::rows(board);
-    let mut k = at;
-    while k < n {
+    for k in at..n {
         let r = rotations::at(board, k);
-        let there = r.shard;
-        if scheduled & (there.0 == target.0) {
+        if scheduled & (r.shard == target) {
             return k;
         }
-        k += 1;
     }
-    k
+    at.max(n)
 }
 
 // A machine seated on the target of the reshape at i, where that is a scheduled split, and in no half of it or in both.
@@ -141,14 +127,12 @@ pub fn next_unhalved_machine(board: &[u64], i: usize, at: usize) -> usize
     let scheduled = !fields::is_merge(board, i) & fields::is_scheduled(board, i);
     let target = fields::target_at(board, i);
     let n = steps::rows_within(machines::count(board), MOST_MACHINES);
-    let mut k = at;
-    while k < n {
+    for k in at..n {
         if scheduled & !carved::is_in_one_half(board, i, target, machines::at(board, k)) {
             return k;
         }
-        k += 1;
     }
-    k
+    at.max(n)
 }
 
 // ---- reshapes
@@ -160,14 +144,12 @@ pub fn next_overlapping_reshape(board: &[u64], i: usize, at: usize) -> usize
 {
     let target = fields::target_at(board, i);
     let n = steps::rows_within(fields::count(board), MOST_RESHAPES);
-    let mut k = at;
-    while k < n {
+    for k in at..n {
         if families::overlaps(target, fields::target_at(board, k)) {
             return k;
         }
-        k += 1;
     }
-    k
+    at.max(n)
 }
 
 // A reshape that lacks a committee, a gap or a boundary that its admission asks for.
@@ -176,12 +158,10 @@ pub fn next_unfounded_reshape(board: &[u64], at: usize) -> usize
     ensures { (at ≤ result) × ((b : Board) → Holds board.now b → well_formed b ≡ true → result ≡ unfounded_reshape b at) }
 {
     let n = steps::rows_within(fields::count(board), MOST_RESHAPES);
-    let mut i = at;
-    while i < n {
+    for i in at..n {
         if !seats::reshape_stands(board, i) {
             return i;
         }
-        i += 1;
     }
-    i
+    at.max(n)
 }

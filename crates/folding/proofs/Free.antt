@@ -1,6 +1,6 @@
 -- Rows that move by one: the free row goes from j to k.
 use Prim.Native.Nat.{ℕ, zero, suc, ◌+◌, ◌-◌, ◌≤◌, ◌<◌}
-use mathlib.Core.Path.{◌≡◌, refl, ap, sym, ◌∙◌}
+use mathlib.Core.Path.{◌≡◌, refl, ap, sym, subst, ◌∙◌}
 use mathlib.Core.List.{List, [], ◌∷◌}
 use native.Mathlib.Omega.{arith}
 use native.Mathlib.Numerals.{add-one}
@@ -96,8 +96,9 @@ module _ (b : Board) (j : ℕ) (in_rows : j < length b.committees) where
   Copied i k ws vs = (c : Board) → Holds ws c → i < length c.committees → k < length c.committees → Holds vs (on_committees (λ t. set t k (get_or t i no_committee)) c)
 
   module _ (ws vs : List ℕ) (i : ℕ) (h : Holds ws (on_committees (freed j i) b)) where
-    pub moved_lower : 0 < i → i ≤ j → Copied (i - 1) i ws vs → Holds vs (on_committees (freed j (i - 1)) b)
-    moved_lower z l g =
+    pub moved_lower : (m : ℕ) → m ≡ i → 0 < i → i ≤ j → Copied (i - 1) m ws vs → Holds vs (on_committees (freed j (i - 1)) b)
+    moved_lower m s z l copied =
+        let g : Copied (i - 1) i ws vs = subst (λ (k : ℕ). Copied (i - 1) k ws vs) s copied in
         let q : i ≡ suc (i - 1) = omega arith in
         let e : set (freed j i cs) i (get_or (freed j i cs) (i - 1) no_committee) ≡ freed j (i - 1) cs =
         ap (λ (k : ℕ). set (freed j k cs) k (get_or (freed j k cs) (i - 1) no_committee)) q ∙ freed_lower cs j (i - 1) no_committee in_rows (omega arith) _ in

@@ -16,15 +16,13 @@ use types::ShardId;
 
 // ---- one row over another
 
-// The n words at `from` are written at `to` too: the place is before them, or past them all.
+// The n words at `from` are written at `to` too: the place is before them, or past them all. By an index, as the two places may overlap.
 fn copy_words(ws: &mut [u64], from: usize, to: usize, n: usize)
     requires { (from + n ≤ length ws.old) × (to + n ≤ length ws.old) × (from < to → from + n ≤ to) }
     ensures { ws.new ≡ paste ws.old to (drop from ws.old) n }
 {
-    let mut k: usize = 0;
-    while k < n {
+    for k in 0..n {
         ws[to + k] = ws[from + k];
-        k += 1;
     }
 }
 
@@ -36,10 +34,7 @@ fn most_members(ws: &[u64], i: usize, j: usize) -> usize
 {
     let m = steps::rows_within(committees::member_count(ws, i), MOST_MEMBERS);
     let n = steps::rows_within(committees::member_count(ws, j), MOST_MEMBERS);
-    if m <= n {
-        return n;
-    }
-    m
+    m.max(n)
 }
 
 // The committee at i is written over the one at j.
@@ -71,10 +66,8 @@ fn free_lower(ws: &mut [u64], j: usize, k: usize)
     requires { (length ws.old ≡ board_size) × (k ≤ j) × (j < most_committees) }
     ensures { (b : Board) → Holds ws.old b → j < length b.committees → Holds ws.new (on_committees (freed j k) b) }
 {
-    let mut i = j;
-    while k < i {
-        copy_row(ws, i - 1, i);
-        i -= 1;
+    for i in (k..j).rev() {
+        copy_row(ws, i, i + 1);
     }
 }
 
@@ -82,10 +75,8 @@ fn free_higher(ws: &mut [u64], j: usize, k: usize)
     requires { (length ws.old ≡ board_size) × (j ≤ k) × (k < most_committees) }
     ensures { (b : Board) → Holds ws.old b → k < length b.committees → Holds ws.new (on_committees (freed j k) b) }
 {
-    let mut i = j;
-    while i < k {
+    for i in j..k {
         copy_row(ws, i + 1, i);
-        i += 1;
     }
 }
 

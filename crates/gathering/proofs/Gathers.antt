@@ -10,26 +10,19 @@ use lib.ListN.{length, get_or, take, drop, set, drop_of_length-le}
 use lib.Seq.{drop-cons, take-suc-set}
 use Rattle.types.specs.Numbers.{Shard, Id}
 use Rattle.types.specs.Places.{is_seated_on, is_ready}
-use Rattle.types.specs.declared.Answer.TheVariants.{DrawMissing, DrawTooLarge}
-use Rattle.rules.specs.Lists.{◌and◌, ◌or◌, any, keep, has, sort}
+use Rattle.rules.specs.Lists.{◌and◌, ◌or◌, any, keep, has}
 use Rattle.rules.specs.Table.{at}
 use Rattle.rules.specs.Board.{Rotation, Board}
 use Rattle.rules.specs.WellFormed.{well_formed}
-use Rattle.rules.specs.Draws.{shuffle}
 use Rattle.rules.specs.Moves.{says, is_on, entrants_on}
 use Rattle.rules.proofs.Tests.{and_parts, or_left, of_not, of_no}
-use Rattle.sampling.specs.Reads.{GivesShuffle, mixed}
-use Rattle.sampling.specs.declared.Reader.{Reader}
-use Rattle.sampling.specs.declared.Shuffled.{Shuffled}
-use Rattle.sampling.specs.declared.Shuffled.TheVariants as shuffled
-use Rattle.sampling.proofs.Mixes.{shuffle_missing, shuffle_large, shuffle_drew}
 use Rattle.tables.proofs.Bools.{and_is}
 use Rattle.shards.specs.Rotations.{rotation_of}
 use Rattle.shards.specs.declared.rotations.Rotation as code
 use Rattle.board.specs.Held.{no_committee, no_rotation}
 use Rattle.board.proofs.Keyed.{committees_rise}
 use Rattle.board.proofs.Moves.{members_at_lem, members_none}
-use Rattle.gathering.specs.Gathered.{Members, Ready, Waiting, Staying, is_entrant, is_gathered, taken, gathered, Drew, Lacks, lacking, large}
+use Rattle.gathering.specs.Gathered.{Members, Ready, Waiting, Staying, is_entrant, is_gathered, taken, gathered}
 
 -- ---- a member's place
 
@@ -110,19 +103,6 @@ module _ {w : Members} {s : Shard} {b : Board} {l filled : List Id} {i : ℕ} (q
   pub all_kept : length l ≤ i → filled ≡ keep (is_gathered w s b) l
   unfolding keep
   all_kept h = sym (append-nil filled) ∙ rw (drop_of_length-le l {i = i} h) at q.whole
-
--- ---- sorted and shuffled
-
-module _ (draws ids sorted after : List ℕ) (p : ℕ) (q : p ≤ length draws) (s : sorted ≡ sort ids) (r : Shuffled)
-    (g : GivesShuffle (length draws) (shuffle sorted (drop p draws)) r) (m : after ≡ mixed sorted (drop p draws)) where
-  pub mix_done : (left : Reader) → r ≡ shuffled.Done left → Drew draws (shuffle (sort ids) (drop p draws)) after left
-  mix_done left e = let d = shuffle_drew draws sorted p q r g left e in record { read = d.0; drawn = rw (← s, m) d.1 }
-
-  pub mix_missing : r ≡ shuffled.Missing → Lacks (shuffle (sort ids) (drop p draws)) DrawMissing
-  mix_missing e = rw (← s, shuffle_missing draws sorted p q r g e) lacking
-
-  pub mix_large : r ≡ shuffled.TooLarge → Lacks (shuffle (sort ids) (drop p draws)) DrawTooLarge
-  mix_large e = rw (← s, shuffle_large draws sorted p q r g e) large
 
 -- ---- of a committee, by its shard
 

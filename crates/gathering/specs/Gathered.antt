@@ -1,16 +1,10 @@
--- Whom a step draws among, and what a shuffle of them tells.
-use Rattle.std.specs.Prelude.{ℕ, ◌≤◌, ◌≡◌, List, [], ◌∷◌, Bool, cond, not, eqb, length, drop}
+-- Whom a step draws among.
+use Rattle.std.specs.Prelude.{List, [], ◌∷◌, Bool, cond, not, eqb}
 use Rattle.types.specs.Numbers.{Shard, Id}
 use Rattle.types.specs.Places.{is_seated_on, is_ready}
-use Rattle.types.specs.declared.Answer.{Answer}
-use Rattle.types.specs.declared.Answer.TheVariants.{DrawMissing, DrawTooLarge}
 use Rattle.rules.specs.Lists.{◌and◌, keep, has}
 use Rattle.rules.specs.Board.{Rotation, Board}
-use Rattle.rules.specs.Draws.{Drawn, drew, missing, too_large}
 use Rattle.rules.specs.Moves.{says, members_of, is_on, entrants_on}
-use Rattle.sampling.specs.declared.Reader.{Reader}
-use Rattle.gathering.specs.declared.Mixed as code
-use Rattle.gathering.specs.declared.Mixed.TheVariants.{Done, Refused}
 
 -- which of the members that are seated on the shard; those who stay when its rotations are aborted are entrants of none
 pub data Members : Type 0 where
@@ -33,20 +27,3 @@ taken w s b x = cond (is_gathered w s b x) (x ∷ []) []
 
 abbrev pub gathered : Members → Shard → Board → List Id
 gathered w s b = keep (is_gathered w s b) (members_of s b)
-
--- ---- draws
-
--- what was drawn, with the draws from the reader on left over
-pub record Drew {A : Type 0} (draws : List ℕ) (d : Drawn A) (a : A) (left : Reader) : Type 0 where
-  pub read : left.at ≤ length draws
-  pub drawn : d ≡ drew a (drop left.at draws)
-
--- 9 and 10
-pub data Lacks {A : Type 0} : Drawn A → Answer → Type 0 where
-  lacking : Lacks missing DrawMissing
-  large : Lacks too_large DrawTooLarge
-
--- of a draw of a list that `ids` now holds
-abbrev pub TellsMixed : List ℕ → Drawn (List Id) → List Id → code.Mixed → Type 0
-TellsMixed draws d ids (Done left) = Drew draws d ids left
-TellsMixed draws d ids (Refused a) = Lacks d a

@@ -9,26 +9,20 @@ ghost use Rattle.rules.specs.Draws.{shuffle};
 ghost use Rattle.rules.specs.Moves.{entrants_on};
 ghost use Rattle.board.specs.Layout.{board_size};
 ghost use Rattle.board.specs.Held.{Holds, no_committee, no_rotation};
-ghost use Rattle.gathering.specs.Gathered.{Ready, Waiting, Staying, is_entrant, is_gathered, taken, gathered, TellsMixed};
+ghost use Rattle.gathering.specs.Gathered.{Ready, Waiting, Staying, is_entrant, is_gathered, taken, gathered};
+ghost use Rattle.sampling.specs.Reads.{ShuffleTells};
 
 use board::committees;
-use board::layout::{MOST_COMMITTEES, MOST_MEMBERS};
-use sampling::{Reader, Shuffled};
+use board::layout::MOST_MEMBERS;
+use sampling::{DrawError, Reader};
 use shards::rotations;
-use types::{Answer, ShardId, ValidatorId};
+use types::{ShardId, ValidatorId};
 
 // How many seated members are ready, and how many wait.
 #[derive(Clone, Copy)]
 pub struct Counts {
     pub ready: usize,
     pub waiting: usize,
-}
-
-// The reader moved on; or the answer that refuses a draw.
-#[derive(Clone, Copy)]
-pub enum Mixed {
-    Done(Reader),
-    Refused(Answer),
 }
 
 // ---- Those who stay when the shard's rotations are aborted: entrants of none
@@ -38,9 +32,7 @@ fn enters_at(board: &[u64], shard: ShardId, id: ValidatorId, i: usize) -> bool
     ensures { (b : Board) → Holds board.now b → i < length b.rotations → result ≡ is_entrant shard.0 id.0 (get_or b.rotations i no_rotation) }
 {
     let r = rotations::at(board, i);
-    let there = r.shard;
-    let entrant = r.entrant;
-    (there.0 == shard.0) & (entrant.0 == id.0)
+    (r.shard == shard) & (r.entrant == id)
 }
 
 // The machine is the entrant of a rotation on the shard.
@@ -49,12 +41,10 @@ fn enters(board: &[u64], shard: ShardId, id: ValidatorId) -> bool
     ensures { (b : Board) → Holds board.now b → result ≡ has id.0 (entrants_on shard.0 b.rotations) }
 {
     let n = rotations::rows(board);
-    let mut row: usize = 0;
-    while row < n {
+    for row in 0..n {
         if enters_at(board, shard, id, row) {
             return true;
         }
-        row += 1;
     }
     false
 }
@@ -63,8 +53,7 @@ fn stays(board: &[u64], shard: ShardId, id: ValidatorId) -> bool
     requires { length board.now ≡ board_size }
     ensures { (b : Board) → Holds board.now b → well_formed b ≡ true → result ≡ is_gathered Staying shard.0 b id.0 }
 {
-    let p = rows::place_of(board, id);
-    p.is_seated_on(shard) & !enters(board, shard, id)
+    rows::place_of(board, id).is_seated_on(shard) & !enters(board, shard, id)
 }
 
 // The machine comes next, if it stays; how many there are then.
@@ -88,10 +77,8 @@ fn gather_staying_at(board: &[u64], shard: ShardId, j: usize, out: &mut [u64]) -
 {
     let n = steps::rows_within(committees::member_count(board, j), MOST_MEMBERS);
     let mut k: usize = 0;
-    let mut i: usize = 0;
-    while i < n {
+    for i in 0..n {
         k = take_staying(board, shard, committees::member_at(board, j, i), out, k);
-        i += 1;
     }
     k
 }
@@ -102,10 +89,9 @@ pub fn gather_staying(board: &[u64], shard: ShardId, out: &mut [u64]) -> usize
     ensures { (result ≤ most_members) × (length out.new ≡ most_members) × ((b : Board) → Holds board.now b → well_formed b ≡ true →
         take result out.new ≡ gathered Staying shard.0 b) }
 {
-    let j = rows::committee_row(board, shard);
-    if MOST_COMMITTEES <= j {
+    let Some(j) = rows::find_committee(board, shard) else {
         return 0;
-    }
+    };
     gather_staying_at(board, shard, j, out)
 }
 
@@ -165,8 +151,7 @@ fn gather_seated_at(
         ready: 0,
         waiting: 0,
     };
-    let mut i: usize = 0;
-    while i < n {
+    for i in 0..n {
         counts = take_seated(
             board,
             shard,
@@ -175,7 +160,6 @@ fn gather_seated_at(
             waiting,
             counts,
         );
-        i += 1;
     }
     counts
 }
@@ -193,29 +177,23 @@ pub fn gather_seated(
         (take result.ready ready.new ≡ gathered Ready shard.0 b)
         × (take result.waiting waiting.new ≡ gathered Waiting shard.0 b)) }
 {
-    let j = rows::committee_row(board, shard);
-    if MOST_COMMITTEES <= j {
+    let Some(j) = rows::find_committee(board, shard) else {
         return Counts {
             ready: 0,
             waiting: 0,
         };
-    }
+    };
     gather_seated_at(board, shard, j, ready, waiting)
 }
 
 // ---- Sorted and shuffled
 
-// The lent ids, sorted and shuffled; where a draw is refused, they are of no use.
-pub fn mix(ids: &mut [u64], draws: &[u64], at: Reader) -> Mixed
+// The lent ids, sorted and shuffled, and the reader moved on; where a draw is refused, they are of no use.
+pub fn sort_and_shuffle(ids: &mut [u64], draws: &[u64], at: Reader) -> Result<Reader, DrawError>
     requires { at.at ≤ length draws.now }
-    ensures { (length ids.new ≡ length ids.old)
-        × TellsMixed draws.now (shuffle (sort ids.old) (drop at.at draws.now)) ids.new result }
+    ensures len { length ids.new ≡ length ids.old }
+    ensures tells { ShuffleTells draws.now (shuffle (sort ids.old) (drop at.at draws.now)) ids.new result }
 {
     sampling::sort_ids(ids);
-    let shuffled = at.shuffle(ids, draws);
-    match shuffled {
-        Shuffled::Done(left) => Mixed::Done(left),
-        Shuffled::Missing => Mixed::Refused(Answer::DrawMissing),
-        Shuffled::TooLarge => Mixed::Refused(Answer::DrawTooLarge),
-    }
+    at.shuffled(ids, draws)
 }

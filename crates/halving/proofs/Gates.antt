@@ -1,18 +1,18 @@
 -- The gate of a split, as the code has it at a row.
-use Prim.Native.Nat.{ℕ, ◌+◌, ◌<◌}
+use Prim.Native.Nat.{ℕ, ◌+◌}
 use mathlib.Core.Path.{◌≡◌, sym, subst, ◌∙◌}
 use mathlib.Core.List.{List}
 use mathlib.Core.Option.{none, none-ne-some, some-injective}
 use mathlib.Core.Bool.{Bool, true, false, ◌&&◌}
-use native.Mathlib.Omega.{arith}
 use lib.Dec.{eqb, leb}
 use lib.ListN.{get_or}
+use Rattle.std.specs.Prelude.{Some, None}
 use Rattle.types.specs.Numbers.{Shard, Id}
 use Rattle.types.specs.Shards.{left_of, right_of, quorum}
 use Rattle.types.specs.Places.{is_ready}
 use Rattle.rules.specs.Lists.{◌and◌, count}
 use Rattle.rules.specs.Table.{at, count_where}
-use Rattle.rules.specs.Board.{Reshape, Board, most_reshapes, size_of}
+use Rattle.rules.specs.Board.{Reshape, Board, size_of}
 use Rattle.rules.specs.WellFormed.{well_formed}
 use Rattle.rules.specs.Moves.{says}
 use Rattle.rules.specs.Schedule.{ready_for, split_gate}
@@ -35,16 +35,12 @@ module _ (t : Shard) (ids : List Id) (b : Board) where
   unfolding split_gate
   gate_is r l q left right c d e f = and_is l q ∙ rw (e, f, c, d)
 
-  pub gate_none : at t b.reshapes ≡ none → Gate t ids b most_reshapes
-  gate_none n = record { row = λ h. absurd (omega arith); opens = λ h. absurd (omega arith); shut = λ h q e. absurd (none-ne-some q (sym n ∙ e)) }
+  pub gate_none : at t b.reshapes ≡ none → Gate t ids b None
+  gate_none n = λ q e. absurd (none-ne-some q (sym n ∙ e))
 
   module _ (i : ℕ) (r : RowOf t i b) where
-    pub gate_open : i < most_reshapes → split_gate t (lefts ids) (rights ids) (get_or b.reshapes i no_reshape).val b ≡ true → Gate t ids b i
-    gate_open l y = record { row = λ h. r; opens = λ h. y; shut = λ h. absurd (omega arith) }
+    pub gate_open : split_gate t (lefts ids) (rights ids) (get_or b.reshapes i no_reshape).val b ≡ true → Gate t ids b (Some i)
+    gate_open y = record { row = r; opens = y }
 
-    pub gate_shut : well_formed b ≡ true → split_gate t (lefts ids) (rights ids) (get_or b.reshapes i no_reshape).val b ≡ false → Gate t ids b most_reshapes
-    gate_shut ok n = record {
-      row = λ h. absurd (omega arith);
-      opens = λ h. absurd (omega arith);
-      shut = λ h q e. subst (λ (x : Reshape). split_gate t (lefts ids) (rights ids) x b ≡ false) (some-injective _ q (sym (row_at b ok t i r) ∙ e)) n;
-    }
+    pub gate_shut : well_formed b ≡ true → split_gate t (lefts ids) (rights ids) (get_or b.reshapes i no_reshape).val b ≡ false → Gate t ids b None
+    gate_shut ok n = λ q e. subst (λ (x : Reshape). split_gate t (lefts ids) (rights ids) x b ≡ false) (some-injective _ q (sym (row_at b ok t i r) ∙ e)) n

@@ -1,7 +1,7 @@
 // A split's halves: whether each reaches quorum, and both stored with the terminal.
 #![tactic(auto)]
 
-ghost use Rattle.std.specs.Prelude.{◌≡◌, [], ◌∷◌, ◌++◌, true, ◌+◌, ◌<◌, ◌≤◌, leb, length, get_or};
+ghost use Rattle.std.specs.Prelude.{◌≡◌, ◌++◌, true, ◌+◌, ◌<◌, ◌≤◌, leb, length, get_or, IfSome};
 ghost use Rattle.types.specs.Shards.{quorum};
 ghost use Rattle.types.specs.Places.{is_ready};
 ghost use Rattle.rules.specs.Lists.{count};
@@ -13,13 +13,12 @@ ghost use Rattle.rules.specs.Schedule.{scheduled, ready_for, split_gate};
 ghost use Rattle.board.specs.Layout.{board_size};
 ghost use Rattle.board.specs.Held.{Holds, no_reshape};
 ghost use Rattle.board.specs.Leaves.{change_at};
+ghost use Rattle.reshapes.specs.Changes.{half_of, with_half};
 ghost use Rattle.drains.specs.Plans.{RowOf};
-ghost use Rattle.halving.specs.Gate.{lefts, rights, on_half, half_of, Gate};
+ghost use Rattle.halving.specs.Gate.{lefts, rights, Gate};
 
-use board::layout::MOST_RESHAPES;
-use board::machines;
 use drains::Whose;
-use reshapes::halves;
+use reshapes::{Side, halves};
 use types::{ShardId, ValidatorId};
 
 // The left half has n/2, rounded up.
@@ -36,11 +35,9 @@ fn ready_members(board: &[u64], ids: &[u64]) -> usize
     ensures { (result ≤ length ids.now) × ((b : Board) → Holds board.now b → well_formed b ≡ true → result ≡ count (says is_ready b) ids.now) }
 {
     let mut ready: usize = 0;
-    let mut k: usize = 0;
-    while k < ids.len() {
-        let p = rows::place_of(board, ValidatorId(ids[k]));
-        ready += machines::bit(p.is_ready()) as usize;
-        k += 1;
+    for id in ids {
+        let p = rows::place_of(board, ValidatorId(*id));
+        ready += usize::from(p.is_ready());
     }
     ready
 }
@@ -67,47 +64,31 @@ fn passes_gate(board: &[u64], target: ShardId, i: usize, ids: &[u64]) -> bool
     left & is_half_ready(board, i, target.right(), &ids[n..])
 }
 
-// The row of the target's reshape where it passes the gate; else 8, past every row.
-pub fn gated_row(board: &[u64], target: ShardId, ids: &[u64]) -> usize
+// The row of the target's reshape, where there is one that passes the gate.
+pub fn find_gated(board: &[u64], target: ShardId, ids: &[u64]) -> Option<usize>
     requires { (length board.now ≡ board_size) × (length ids.now ≤ most_members) }
-    ensures { (result < most_reshapes → target.0 ≤ last_target) × ((b : Board) → Holds board.now b → well_formed b ≡ true → Gate target.0 ids.now b result) }
+    ensures room { IfSome result (λ i. (i < most_reshapes) × (target.0 ≤ last_target)) }
+    ensures gate { (b : Board) → Holds board.now b → well_formed b ≡ true → Gate target.0 ids.now b result }
 {
     if !rows::is_target(target) {
-        return MOST_RESHAPES;
+        return None;
     }
-    let i = rows::reshape_row(board, target);
-    if MOST_RESHAPES <= i {
-        return MOST_RESHAPES;
-    }
+    let i = rows::find_reshape(board, target)?;
     if passes_gate(board, target, i, ids) {
-        return i;
+        return Some(i);
     }
-    MOST_RESHAPES
+    None
 }
 
 // ---- halves stored
 
-fn push(board: &mut [u64], i: usize, left: bool, id: ValidatorId)
+fn store_half(board: &mut [u64], i: usize, side: Side, half: &[u64])
     requires { (length board.old ≡ board_size) × (i < most_reshapes) }
-    ensures { (b : Board) → Holds board.old b → i < length b.reshapes → length (half_of left (get_or b.reshapes i no_reshape).val) < most_half →
-        Holds board.new (on_reshapes (change_at no_reshape i (on_half left (λ l. l ++ (id.0 ∷ [])))) b) }
+    ensures { (b : Board) → Holds board.old b → i < length b.reshapes → length (half_of side (get_or b.reshapes i no_reshape).val) + length half.now ≤ most_half →
+        Holds board.new (on_reshapes (change_at no_reshape i (with_half side (λ l. l ++ half.now))) b) }
 {
-    if left {
-        halves::push_left(board, i, id);
-        return;
-    }
-    halves::push_right(board, i, id);
-}
-
-fn store_half(board: &mut [u64], i: usize, left: bool, half: &[u64])
-    requires { (length board.old ≡ board_size) × (i < most_reshapes) }
-    ensures { (b : Board) → Holds board.old b → i < length b.reshapes → length (half_of left (get_or b.reshapes i no_reshape).val) + length half.now ≤ most_half →
-        Holds board.new (on_reshapes (change_at no_reshape i (on_half left (λ l. l ++ half.now))) b) }
-{
-    let mut k: usize = 0;
-    while k < half.len() {
-        push(board, i, left, ValidatorId(half[k]));
-        k += 1;
+    for id in half {
+        halves::push(board, i, side, ValidatorId(*id));
     }
 }
 
@@ -119,6 +100,6 @@ pub fn schedule(board: &mut [u64], target: ShardId, i: usize, ids: &[u64])
 {
     let n = left_size(ids);
     drains::schedule(board, target, i);
-    store_half(board, i, true, &ids[..n]);
-    store_half(board, i, false, &ids[n..]);
+    store_half(board, i, Side::Left, &ids[..n]);
+    store_half(board, i, Side::Right, &ids[n..]);
 }

@@ -1,6 +1,6 @@
 -- A list of ids told by its count and the words after it.
 use Prim.Native.Nat.{ℕ, ◌+◌, ◌≤◌, ◌<◌}
-use mathlib.Core.Path.{◌≡◌, refl, ap, sym, ◌∙◌}
+use mathlib.Core.Path.{◌≡◌, refl, ap, sym, subst, ◌∙◌}
 use mathlib.Core.List.{List, [], ◌∷◌, ◌++◌}
 use mathlib.Core.Bool.{true, false, false≢true}
 use native.Mathlib.Omega.{arith}
@@ -16,8 +16,12 @@ use Rattle.rules.proofs.Tests.{all_parts, all_joins}
 use Rattle.tables.proofs.Ids.{id_rows}
 use Rattle.word_tests.proofs.Decides.{Words, words_cut}
 use Rattle.unpacking.proofs.Parts.{ends, follows}
-use Rattle.id_lists.specs.Told.{IdsAt, TellsIds}
+use Rattle.std.specs.Prelude.{Option, Some, None}
+use Rattle.id_lists.specs.Told.{IdsAt, TellsIdList}
 use Rattle.id_lists.proofs.Places.{from}
+
+pub some_same : {x y : ℕ} → ◌≡◌ {A = Option ℕ} (Some x) (Some y) → x ≡ y
+some_same p = cc
 
 pub list_words : (l : List Id) → section id_words l ≡ length l ∷ l
 unfolding section
@@ -44,21 +48,21 @@ module _ (cap : ℕ) (ws : List ℕ) (at n : ℕ) (count : n ≡ get_or ws at 0)
         same = ap (take n) (follows at (at + 1) ws (length l ∷ []) (l ++ drop e ws) w refl) ∙ take_at l (drop e ws) n c;
       }
 
-  none : ((e : ℕ) → IdsAt cap ws at e → ⊥) → TellsIds cap ws at 0
-  none h = record { yes = λ p. absurd (omega arith); held = λ e p. absurd (h e p) }
+  none : ((e : ℕ) → IdsAt cap ws at e → ⊥) → TellsIdList cap ws at None
+  none h = record { yes = λ e p. absurd (cc); held = λ e p. absurd (h e p) }
 
-  pub ids_short : length ws < at + 1 + n → TellsIds cap ws at 0
+  pub ids_short : length ws < at + 1 + n → TellsIdList cap ws at None
   ids_short h = none (λ e p. omega (arith, (there e p).fits))
 
-  pub ids_many : cap < n → TellsIds cap ws at 0
+  pub ids_many : cap < n → TellsIdList cap ws at None
   unfolding good_ids
   ids_many h = none (λ e p. omega (arith, (there e p).many, leb-true (length p.ids) cap (all_parts _ p.good).0))
 
-  pub ids_twice : false ≡ distinct (from n (at + 1) ws) → TellsIds cap ws at 0
+  pub ids_twice : false ≡ distinct (from n (at + 1) ws) → TellsIdList cap ws at None
   unfolding good_ids
   ids_twice h = none (λ e p. false≢true (h ∙ ap distinct (there e p).same ∙ (all_parts _ p.good).1.1.0))
 
-  pub ids_told : n ≤ cap → at + 1 + n ≤ length ws → Words ws → true ≡ distinct (from n (at + 1) ws) → TellsIds cap ws at (at + 1 + n)
+  pub ids_told : n ≤ cap → at + 1 + n ≤ length ws → Words ws → true ≡ distinct (from n (at + 1) ws) → TellsIdList cap ws at (Some (at + 1 + n))
   unfolding good_ids
   ids_told few room v d =
       let l = from n (at + 1) ws in
@@ -66,12 +70,10 @@ module _ (cap : ℕ) (ws : List ℕ) (at n : ℕ) (count : n ≡ get_or ws at 0)
       let rest : drop (at + 1) ws ≡ l ++ drop (at + 1 + n) ws = sym (take-append-drop n (drop (at + 1) ws)) ∙ ap (λ (u : List ℕ). l ++ u) (drop-drop n (at + 1) ws) in
       let first : drop at ws ≡ length l ∷ drop (at + 1) ws =
       drop-cons ws at 0 (omega arith) ∙ ap (λ (k : ℕ). get_or ws at 0 ∷ drop k ws) (sym (add-one at)) ∙ ap (λ (k : ℕ). k ∷ drop (at + 1) ws) (sym (long ∙ count)) in
-      record {
-        yes = λ _. record {
-          ids = l;
-          good = all_joins _ (le-leb (length l) cap (omega arith), ((words_cut n (drop (at + 1) ws) (words_cut (at + 1) ws v).1).0, (sym d, tt)));
-          words = first ∙ ap (λ (u : List ℕ). length l ∷ u) rest ∙ ap (λ (u : List ℕ). u ++ drop (at + 1 + n) ws) (sym (list_words l));
-          next = omega (arith, long, ap length (list_words l));
-        };
-        held = λ e p. sym (there e p).next';
-      }
+      let ids : IdsAt cap ws at (at + 1 + n) = record {
+        ids = l;
+        good = all_joins _ (le-leb (length l) cap (omega arith), ((words_cut n (drop (at + 1) ws) (words_cut (at + 1) ws v).1).0, (sym d, tt)));
+        words = first ∙ ap (λ (u : List ℕ). length l ∷ u) rest ∙ ap (λ (u : List ℕ). u ++ drop (at + 1 + n) ws) (sym (list_words l));
+        next = omega (arith, long, ap length (list_words l));
+      } in
+      record { yes = λ e p. subst (IdsAt cap ws at) (some_same p) ids; held = λ e p. ap Some (sym (there e p).next') }

@@ -5,7 +5,7 @@ use mathlib.Core.List.{List, [], ◌∷◌}
 use native.Mathlib.Omega.{arith}
 use lib.ListN.{length, get_or, take, drop, length-drop}
 use lib.Seq.{drop-drop, get_or-drop, get_or-take, length-take-le}
-use Rattle.rules.specs.Snapshot.{value_of_bytes}
+use Rattle.rules.specs.Snapshot.{value_of_bytes, read_words}
 use Rattle.word_tests.proofs.Loops.{rest_is}
 use Rattle.unpacking.specs.AsWords.{AsWords}
 use Rattle.unpacking.proofs.Bytes.{total, word_is}
@@ -23,6 +23,27 @@ drop_take (suc i) (suc n) [] h = go (suc n - suc i)
     go zero = refl
     go (suc k) = refl
 drop_take (suc i) (suc n) (x ∷ l) h = let z : n - i ≡ suc n - suc i = omega arith in drop_take i n l (omega arith) ∙ ap (λ (k : ℕ). take k (drop i l)) z
+
+pub read_length : (n : ℕ) (bs : List ℕ) → length (read_words n bs) ≡ n
+unfolding read_words
+read_length zero bs = refl
+read_length (suc n) bs = ap suc (read_length n (drop 8 bs))
+
+pub below_count : (n i : ℕ) (bs : List ℕ) → i < length (read_words n bs) → i < n
+below_count n i bs h = omega (arith, read_length n bs)
+
+read_word : (n i : ℕ) (bs : List ℕ) → i < n → value_of_bytes (take 8 (drop (8 * i) bs)) ≡ get_or (read_words n bs) i 0
+unfolding read_words
+read_word zero i bs h = absurd (omega arith)
+read_word (suc n) zero bs h = refl
+read_word (suc n) (suc i) bs h =
+    let z : 8 * suc i ≡ 8 + 8 * i = omega arith in rw z (ap (λ (l : List ℕ). value_of_bytes (take 8 l)) (sym (drop-drop (8 * i) 8 bs)) ∙ read_word n i (drop 8 bs) (omega arith))
+
+-- word i of those that are read from a place on
+pub read_at : (n at i : ℕ) (bs : List ℕ) → i < n → value_of_bytes (take 8 (drop (8 * (at + i)) bs)) ≡ get_or (read_words n (drop (8 * at) bs)) i 0
+read_at n at i bs h =
+    let z : 8 * (at + i) ≡ 8 * at + 8 * i = omega arith in
+    ap (λ (k : ℕ). value_of_bytes (take 8 (drop k bs))) z ∙ ap (λ (l : List ℕ). value_of_bytes (take 8 l)) (sym (drop-drop (8 * i) (8 * at) bs)) ∙ read_word n i (drop (8 * at) bs) h
 
 module _ {bs ws : List ℕ} (h : AsWords bs ws) (at n : ℕ) (room : at + n ≤ length bs / 8) where
   pub from_length : length (from n at ws) ≡ n

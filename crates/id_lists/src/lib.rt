@@ -1,77 +1,58 @@
 // Lists of ids told by a snapshot's bytes, without a copy of them.
 #![tactic(auto)]
 
-ghost use Rattle.std.specs.Prelude.{◌≡◌, List, not, ◌||◌, ℕ, ◌+◌, ◌/◌, ◌≤◌, length, take, drop};
-ghost use Rattle.rules.specs.Lists.{has, distinct};
-ghost use Rattle.word_tests.specs.Tests.{mark_count};
+ghost use Rattle.std.specs.Prelude.{◌≡◌, List, ℕ, ◌+◌, ◌*◌, ◌/◌, ◌≤◌, length, drop};
+ghost use Rattle.rules.specs.Snapshot.{read_words};
 ghost use Rattle.unpacking.specs.AsWords.{AsWords};
-ghost use Rattle.id_lists.specs.Told.{TellsIds};
+ghost use Rattle.id_lists.specs.Told.{TellsIdList};
 
 use bytes_words::word_at;
+use word_tests::{Marks, Words};
 
-// None of the n words at a place is x.
-fn lacking(x: u64, n: usize, bytes: &[u8], at: usize) -> bool
-    requires { at + n ≤ length bytes.now / 8 }
-    ensures { (ws : List ℕ) → AsWords bytes.now ws → result ≡ not (has x (take n (drop at ws))) }
-{
-    let mut ok = true;
-    let mut i: usize = 0;
-    while i < n {
-        ok = ok & (word_at(bytes, 8 * (at + i)) != x);
-        i += 1;
-    }
-    ok
+// The words that stand at a place of bytes, so many words in.
+#[derive(Drop)]
+struct WordsAt<'a> {
+    bytes: &'a [u8],
+    at: usize,
+    count: usize,
+    ghost there: { at + count ≤ length bytes.now / 8 },
 }
 
-// Asked only of an id whose mark is taken.
-fn is_new(marked: bool, x: u64, n: usize, bytes: &[u8], at: usize) -> bool
-    requires { at + n ≤ length bytes.now / 8 }
-    ensures { (ws : List ℕ) → AsWords bytes.now ws → result ≡ (not marked || not (has x (take n (drop at ws)))) }
-{
-    if marked {
-        return lacking(x, n, bytes, at);
+impl<'a> Words for WordsAt<'a> {
+    ghost words = { λ s. read_words s.count (drop (8 * s.at) s.bytes.now) };
+
+    fn count(&self) -> usize {
+        self.count
     }
-    true
+
+    fn word(&self, i: usize) -> u64 {
+        word_at(self.bytes, 8 * (self.at + i))
+    }
 }
 
-// As `word_tests::distinct_marking`, of the n ids at a place.
-fn distinct_marking(marks: &mut [u8], stamp: u8, n: usize, bytes: &[u8], at: usize) -> bool
-    requires { (length marks.old ≡ mark_count) × (at + n ≤ length bytes.now / 8) }
-    ensures { (ws : List ℕ) → AsWords bytes.now ws → result ≡ distinct (take n (drop at ws)) }
-{
-    let mut i = n;
-    while 0 < i {
-        let rest = i;
-        i -= 1;
-        let x = word_at(bytes, 8 * (at + i));
-        let mark = (x % 512) as usize;
-        if !is_new(marks[mark] == stamp, x, n - rest, bytes, at + rest) {
-            return false;
-        }
-        marks[mark] = stamp;
-    }
-    true
-}
-
-// Where the count at a place and that many distinct ids end, if it is within cap; 0 where there are none. By marks that serve many lists.
-pub fn ids_end(cap: usize, marks: &mut [u8], stamp: u8, bytes: &[u8], at: usize) -> usize
-    requires { length marks.old ≡ mark_count }
-    ensures { (ws : List ℕ) → AsWords bytes.now ws → TellsIds cap ws at result }
+// Where the count at a place and that many distinct ids end, if it is within cap. By marks that serve many lists.
+pub fn id_list_end(cap: usize, marks: &mut Marks, bytes: &[u8], at: usize) -> Option<usize>
+    ensures { (ws : List ℕ) → AsWords bytes.now ws → TellsIdList cap ws at result }
 {
     let total = bytes.len() / 8;
     if total <= at {
-        return 0;
+        return None;
     }
     let n = word_at(bytes, 8 * at) as usize;
     if cap < n {
-        return 0;
+        return None;
     }
     let first = at + 1;
     if total - first < n {
-        return 0;
+        return None;
     }
-    if !distinct_marking(marks, stamp, n, bytes, first) {
-        return 0;
+    let ids = WordsAt {
+        bytes,
+        at: first,
+        count: n,
+    };
+    if !marks.differ(&ids) {
+        return None;
     }
-    first + n
+    Some(first + n)
 }

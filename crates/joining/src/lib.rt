@@ -22,8 +22,7 @@ pub fn put_place(ws: &mut [u64], i: usize, p: Place)
         Holds ws.new (place (get_or b.machines i no_machine).key (λ q. p) b) }
 {
     let m = machines::at(ws, i);
-    let id = m.id;
-    machines::put(ws, i, Machine { id: id, place: p });
+    machines::put(ws, i, Machine { id: m.id, place: p });
 }
 
 // ---- onto a shard
@@ -39,8 +38,7 @@ pub fn stands_at(ws: &[u64], row: usize, shard: ShardId) -> bool
     if committees::count(ws) <= row {
         return false;
     }
-    let there = committees::shard_at(ws, row);
-    there.0 == shard.0
+    committees::shard_at(ws, row) == shard
 }
 
 pub fn may_join(ws: &[u64], shard: ShardId, id: ValidatorId) -> bool
@@ -64,7 +62,7 @@ pub fn may_replace(ws: &[u64], shard: ShardId, old: ValidatorId, new: ValidatorI
 {
     let j = committees::place_of(ws, shard);
     if stands_at(ws, j, shard) {
-        if committees::has_member(ws, j, new) & (new.0 != old.0) {
+        if committees::has_member(ws, j, new) & (new != old) {
             return false;
         }
         if committees::has_member(ws, j, old) {

@@ -9,29 +9,19 @@ use lib.Seq.{length-take-le, take_all, take_at, drop_at, take-append-le, take-su
 use borrow.Rule.Slice.PartMut.{put_mid, take_put}
 use Rattle.types.specs.Numbers.{Shard, Id}
 use Rattle.types.specs.Shards.{left_of, right_of}
-use Rattle.types.specs.declared.Answer.{Answer}
 use Rattle.rules.specs.Lists.{sort}
 use Rattle.rules.specs.Board.{Board, size_of}
 use Rattle.rules.specs.WellFormed.{well_formed}
-use Rattle.rules.specs.Draws.{Drawn, and_then, shuffle}
+use Rattle.rules.specs.Draws.{shuffle}
 use Rattle.rules.specs.Reshapes.{half_up, seated_members, keepers_of, draw_keepers}
 use Rattle.rules.proofs.Tests.{all_parts}
 use Rattle.rules.proofs.KeptBoard.{limits}
 use Rattle.sampling.specs.declared.Reader.{Reader}
-use Rattle.gathering.specs.Gathered.{Ready, Waiting, gathered, Drew, Lacks, lacking, large}
+use Rattle.sampling.specs.Reads.{Read, no_draw}
+use Rattle.sampling.specs.declared.DrawError.{DrawError}
+use Rattle.sampling.proofs.Failing.{then_fails, then_reads}
+use Rattle.gathering.specs.Gathered.{Ready, Waiting, gathered}
 use Rattle.keepers.specs.Kept.{filled, shared, seats_of, right_drawn}
-
--- ---- one draw after another
-
-pub lacks_then : {A B : Type 0} (d : Drawn A) (f : A → List ℕ → Drawn B) (a : Answer) → Lacks d a → Lacks (and_then d f) a
-unfolding and_then
-lacks_then d f a lacking = lacking
-lacks_then d f a large = large
-
-module _ {A B : Type 0} (draws : List ℕ) (d : Drawn A) (x : A) (left : Reader) (h : Drew draws d x left) (f : A → List ℕ → Drawn B) where
-  pub then_is : and_then d f ≡ f x (drop left.at draws)
-  unfolding and_then
-  then_is = rw h.drawn
 
 -- ---- the share filled
 
@@ -80,8 +70,8 @@ module _ (m : ℕ) (front out : List ℕ) (fits : m ≤ length out) (same : leng
   front_taken = take_at front (drop m out) m front_length
 
 pub share_filled : (draws : List ℕ) (share : ℕ) (ready waiting : List Id) (ds : List ℕ) (mixed ids : List Id) → ids ≡ take share (ready ++ mixed)
-    → (left : Reader) → Drew draws (shuffle (sort waiting) ds) mixed left → Drew draws (filled share ready waiting ds) ids left
-share_filled draws share ready waiting ds mixed ids e left h = record { read = h.read; drawn = then_is draws _ _ left h _ ∙ rw e }
+    → (left : Reader) → Read draws (shuffle (sort waiting) ds) mixed left → Read draws (filled share ready waiting ds) ids left
+share_filled draws share ready waiting ds mixed ids e left h = record { within = h.within; drew = then_reads _ _ draws _ left h ∙ rw e }
 
 pub keepers_are : (c : Shard) (share : ℕ) (b : Board) (ds : List ℕ) → keepers_of c share b ds ≡ shared share (gathered Ready c b) (gathered Waiting c b) ds
 unfolding keepers_of seated_members
@@ -94,18 +84,18 @@ size_within b ok = (limits b.settings (all_parts _ ok).0).size
 module _ (t : Shard) (b : Board) (draws : List ℕ) where
   -- the words from n on are lent, and come back as `part`
   module _ (c : Shard) (child : c ≡ right_of t) (share n w : ℕ) (out part ds : List ℕ) where
-    pub right_done : n ≤ length out → (m : ℕ) → m ≤ length part → (left : Reader) → Drew draws (keepers_of c share b ds) (take m part) left
-        → Drew draws (right_drawn t share b (take n out) ds) (seats_of t (put_mid n w out part) n m) left
+    pub right_done : n ≤ length out → (m : ℕ) → m ≤ length part → (left : Reader) → Read draws (keepers_of c share b ds) (take m part) left
+        → Read draws (right_drawn t share b (take n out) ds) (seats_of t (put_mid n w out part) n m) left
     right_done fits m few left h =
         let rest = drop w (drop n out) in
         let ids : take m (drop n (put_mid n w out part)) ≡ take m part = ap (take m) (drop_at (take n out) (part ++ rest) n (length-take-le n out fits)) ∙ take-append-le m part rest few in
-        record { read = h.read; drawn = then_is draws _ _ left (rw child at h) _ ∙ rw (ids, take_put n w out part fits) }
+        record { within = h.within; drew = then_reads _ _ draws _ left (rw child at h) ∙ rw (ids, take_put n w out part fits) }
 
   module _ (c : Shard) (child : c ≡ left_of t) (size : ℕ) (is : size ≡ size_of b) where
-    pub both_are : (lefts : List Id) (left : Reader) → Drew draws (keepers_of c (half_up size) b draws) lefts left → draw_keepers t b draws ≡ right_drawn t (size / 2) b lefts (drop left.at draws)
+    pub both_are : (lefts : List Id) (left : Reader) → Read draws (keepers_of c (half_up size) b draws) lefts left → draw_keepers t b draws ≡ right_drawn t (size / 2) b lefts (drop left.at draws)
     unfolding draw_keepers
-    both_are lefts left h = rw (is) (then_is draws _ _ left (rw (child, is) at h) _)
+    both_are lefts left h = rw (is) (then_reads _ _ draws _ left (rw (child, is) at h))
 
-    pub both_lack : (a : Answer) → Lacks (keepers_of c (half_up size) b draws) a → Lacks (draw_keepers t b draws) a
+    pub both_fail : (e : DrawError) → keepers_of c (half_up size) b draws ≡ no_draw e → draw_keepers t b draws ≡ no_draw e
     unfolding draw_keepers
-    both_lack a h = lacks_then _ _ a (rw (child, is) at h)
+    both_fail e h = then_fails _ _ e (rw (child, is) at h)

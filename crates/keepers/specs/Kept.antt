@@ -1,5 +1,5 @@
 -- What the code tells of keepers that are drawn.
-use Rattle.std.specs.Prelude.{ℕ, ◌+◌, ◌≤◌, List, [], ◌++◌, length, take, drop}
+use Rattle.std.specs.Prelude.{ℕ, ◌+◌, ◌≤◌, ◌≡◌, List, [], ◌++◌, length, take, drop, Result, Ok, Err}
 use Rattle.types.specs.Numbers.{Shard, Id}
 use Rattle.types.specs.Shards.{left_of, right_of}
 use Rattle.rules.specs.Table.{Table}
@@ -7,11 +7,10 @@ use Rattle.rules.specs.Lists.{sort}
 use Rattle.rules.specs.Board.{Seat, Board, most_members, most_seats}
 use Rattle.rules.specs.Draws.{Drawn, drew, and_then, shuffle}
 use Rattle.rules.specs.Reshapes.{keepers_of, seat_all}
-use Rattle.gathering.specs.Gathered.{Drew, Lacks}
+use Rattle.sampling.specs.Reads.{Read, no_draw}
+use Rattle.sampling.specs.declared.DrawError.{DrawError}
 use Rattle.keepers.specs.declared.Listed.{Listed}
-use Rattle.keepers.specs.declared.Listed.TheVariants as listed
 use Rattle.keepers.specs.declared.Keepers.{Keepers}
-use Rattle.keepers.specs.declared.Keepers.TheVariants.{Drawn as Kept, Refused}
 
 -- room for the left child's keepers, and behind them for every member of the right one
 abbrev pub keepers_room : ℕ
@@ -20,14 +19,14 @@ keepers_room = most_seats + most_members
 -- ---- a child's list
 
 -- whatever the words hold, the list is short and the reader within the draws
-abbrev pub ListedWithin : List ℕ → ℕ → Listed → Type 0
-ListedWithin draws most (listed.Done n left) = (n ≤ most) × (left.at ≤ length draws)
-ListedWithin draws most (listed.Refused a) = Unit {0}
+abbrev pub ListedWithin : List ℕ → ℕ → Result Listed DrawError → Type 0
+ListedWithin draws most (Ok l) = (l.count ≤ most) × (l.left.at ≤ length draws)
+ListedWithin draws most (Err e) = Unit {0}
 
--- of a draw of the first n of `ids`
-abbrev pub TellsListed : List ℕ → Drawn (List Id) → List Id → Listed → Type 0
-TellsListed draws d ids (listed.Done n left) = Drew draws d (take n ids) left
-TellsListed draws d ids (listed.Refused a) = Lacks d a
+-- of a draw of the first of `ids`
+abbrev pub TellsListed : List ℕ → Drawn (List Id) → List Id → Result Listed DrawError → Type 0
+TellsListed draws d ids (Ok l) = Read draws d (take l.count ids) l.left
+TellsListed draws d ids (Err e) = d ≡ no_draw e
 
 -- the waiting ones fill the share, behind ready ones that are drawn
 abbrev pub filled : ℕ → List Id → List Id → List ℕ → Drawn (List Id)
@@ -38,17 +37,17 @@ shared share ready waiting draws = and_then (shuffle (sort ready) draws) (λ dra
 
 -- ---- the keepers of both
 
-abbrev pub KeptWithin : List ℕ → Keepers → Type 0
-KeptWithin draws (Kept n m left) = (n + m ≤ most_seats) × (left.at ≤ length draws)
-KeptWithin draws (Refused a) = Unit {0}
+abbrev pub KeptWithin : List ℕ → Result Keepers DrawError → Type 0
+KeptWithin draws (Ok k) = (k.from_left + k.from_right ≤ most_seats) × (k.left.at ≤ length draws)
+KeptWithin draws (Err e) = Unit {0}
 
 -- the seats of n ids for the left child, then of m for the right one
 abbrev pub seats_of : Shard → List Id → ℕ → ℕ → Table Seat
 seats_of t ids n m = seat_all (right_of t) (take m (drop n ids)) (seat_all (left_of t) (take n ids) [])
 
-abbrev pub TellsKept : Shard → List ℕ → Drawn (Table Seat) → List Id → Keepers → Type 0
-TellsKept t draws d ids (Kept n m left) = Drew draws d (seats_of t ids n m) left
-TellsKept t draws d ids (Refused a) = Lacks d a
+abbrev pub TellsKept : Shard → List ℕ → Drawn (Table Seat) → List Id → Result Keepers DrawError → Type 0
+TellsKept t draws d ids (Ok k) = Read draws d (seats_of t ids k.from_left k.from_right) k.left
+TellsKept t draws d ids (Err e) = d ≡ no_draw e
 
 -- those of the left child are drawn
 abbrev pub right_drawn : Shard → ℕ → Board → List Id → List ℕ → Drawn (Table Seat)

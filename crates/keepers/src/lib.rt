@@ -12,26 +12,26 @@ ghost use Rattle.keepers.specs.Kept.{keepers_room, ListedWithin, TellsListed, fi
 
 use board::layout::MOST_MEMBERS;
 use board::settings;
-use gathering::Mixed;
-use sampling::Reader;
-use types::{Answer, ShardId};
+use sampling::{DrawError, Reader};
+use types::ShardId;
 
 const MOST_SIZE: usize = 32;
 
 pub const KEEPERS_ROOM: usize = MOST_SIZE + MOST_MEMBERS;
 
-// How many ids stand in the list, and the reader moved on; or the answer that refuses a draw.
+// How many ids stand in the list, and the reader moved on.
 #[derive(Clone, Copy)]
-pub enum Listed {
-    Done(usize, Reader),
-    Refused(Answer),
+pub struct Listed {
+    pub count: usize,
+    pub left: Reader,
 }
 
-// How many keepers the left child gives and how many the right, one after the other, and the reader moved on; or the answer that refuses a draw.
+// How many keepers the left child gives and how many the right, one after the other, and the reader moved on.
 #[derive(Clone, Copy)]
-pub enum Keepers {
-    Drawn(usize, usize, Reader),
-    Refused(Answer),
+pub struct Keepers {
+    pub from_left: usize,
+    pub from_right: usize,
+    pub left: Reader,
 }
 
 // Waiting members behind the m ready ones, as many as the share lacks; how many there are then.
@@ -59,16 +59,15 @@ fn fill_share(
     at: Reader,
     m: usize,
     out: &mut [u64],
-) -> Listed
+) -> Result<Listed, DrawError>
     requires { (at.at ≤ length draws.now) × (m ≤ length out.old) × (share ≤ length out.old) }
-    ensures { (length out.new ≡ length out.old) × ListedWithin draws.now share result
-        × TellsListed draws.now (filled share (take m out.old) waiting.old (drop at.at draws.now)) out.new result }
+    ensures len { length out.new ≡ length out.old }
+    ensures within { ListedWithin draws.now share result }
+    ensures tells { TellsListed draws.now (filled share (take m out.old) waiting.old (drop at.at draws.now)) out.new result }
 {
-    let mixed = gathering::mix(waiting, draws, at);
-    match mixed {
-        Mixed::Done(left) => Listed::Done(put_behind(waiting, share, m, out), left),
-        Mixed::Refused(answer) => Listed::Refused(answer),
-    }
+    let left = gathering::sort_and_shuffle(waiting, draws, at)?;
+    let count = put_behind(waiting, share, m, out);
+    Ok(Listed { count, left })
 }
 
 // The m ready members, sorted and shuffled, then the waiting ones.
@@ -79,16 +78,14 @@ fn draw_share(
     at: Reader,
     m: usize,
     out: &mut [u64],
-) -> Listed
+) -> Result<Listed, DrawError>
     requires { (at.at ≤ length draws.now) × (m ≤ length out.old) × (share ≤ length out.old) }
-    ensures { (length out.new ≡ length out.old) × ListedWithin draws.now share result
-        × TellsListed draws.now (shared share (take m out.old) waiting.old (drop at.at draws.now)) out.new result }
+    ensures len { length out.new ≡ length out.old }
+    ensures within { ListedWithin draws.now share result }
+    ensures tells { TellsListed draws.now (shared share (take m out.old) waiting.old (drop at.at draws.now)) out.new result }
 {
-    let mixed = gathering::mix(&mut out[..m], draws, at);
-    match mixed {
-        Mixed::Done(left) => fill_share(waiting, share, draws, left, m, out),
-        Mixed::Refused(answer) => Listed::Refused(answer),
-    }
+    let left = gathering::sort_and_shuffle(&mut out[..m], draws, at)?;
+    fill_share(waiting, share, draws, left, m, out)
 }
 
 // The child's keepers; its waiting members are gathered in a list of their own.
@@ -100,10 +97,12 @@ fn keepers_of(
     at: Reader,
     waiting: &mut [u64],
     out: &mut [u64],
-) -> Listed
+) -> Result<Listed, DrawError>
     requires { (length board.now ≡ board_size) × (at.at ≤ length draws.now) × (share ≤ most_members) × (length waiting.old ≡ most_members) × (most_members ≤ length out.old) }
-    ensures { (length out.new ≡ length out.old) × ListedWithin draws.now share result × ((b : Board) → Holds board.now b → well_formed b ≡ true →
-        TellsListed draws.now (rules.keepers_of child.0 share b (drop at.at draws.now)) out.new result) }
+    ensures len { length out.new ≡ length out.old }
+    ensures within { ListedWithin draws.now share result }
+    ensures tells { (b : Board) → Holds board.now b → well_formed b ≡ true →
+        TellsListed draws.now (rules.keepers_of child.0 share b (drop at.at draws.now)) out.new result }
 {
     let counts = gathering::gather_seated(board, child, &mut out[..MOST_MEMBERS], waiting);
     let k = counts.waiting;
@@ -120,10 +119,11 @@ fn draw_right(
     waiting: &mut [u64],
     n: usize,
     out: &mut [u64],
-) -> Keepers
+) -> Result<Keepers, DrawError>
     requires { (length board.now ≡ board_size) × (target.0 ≤ last_target) × (n + share ≤ most_seats) × (at.at ≤ length draws.now) × (length waiting.old ≡ most_members) × (length out.old ≡ keepers_room) }
-    ensures { KeptWithin draws.now result × ((b : Board) → Holds board.now b → well_formed b ≡ true →
-        TellsKept target.0 draws.now (right_drawn target.0 share b (take n out.old) (drop at.at draws.now)) out.new result) }
+    ensures within { KeptWithin draws.now result }
+    ensures tells { (b : Board) → Holds board.now b → well_formed b ≡ true →
+        TellsKept target.0 draws.now (right_drawn target.0 share b (take n out.old) (drop at.at draws.now)) out.new result }
 {
     let rights = keepers_of(
         board,
@@ -133,18 +133,25 @@ fn draw_right(
         at,
         waiting,
         &mut out[n..],
-    );
-    match rights {
-        Listed::Done(m, left) => Keepers::Drawn(n, m, left),
-        Listed::Refused(answer) => Keepers::Refused(answer),
-    }
+    )?;
+    Ok(Keepers {
+        from_left: n,
+        from_right: rights.count,
+        left: rights.left,
+    })
 }
 
 // The left child gives S/2 rounded up, the right one S/2 rounded down.
-pub fn draw_merge_keepers(board: &[u64], target: ShardId, draws: &[u64], out: &mut [u64]) -> Keepers
+pub fn draw_merge_keepers(
+    board: &[u64],
+    target: ShardId,
+    draws: &[u64],
+    out: &mut [u64],
+) -> Result<Keepers, DrawError>
     requires { (length board.now ≡ board_size) × (target.0 ≤ last_target) × (length out.old ≡ keepers_room) }
-    ensures { KeptWithin draws.now result × ((b : Board) → Holds board.now b → well_formed b ≡ true →
-        TellsKept target.0 draws.now (draw_keepers target.0 b draws.now) out.new result) }
+    ensures within { KeptWithin draws.now result }
+    ensures tells { (b : Board) → Holds board.now b → well_formed b ≡ true →
+        TellsKept target.0 draws.now (draw_keepers target.0 b draws.now) out.new result }
 {
     let size = steps::rows_within(settings::shard_size(board) as usize, MOST_SIZE);
     let mut waiting: [u64; MOST_MEMBERS] = [0; MOST_MEMBERS];
@@ -156,11 +163,15 @@ pub fn draw_merge_keepers(board: &[u64], target: ShardId, draws: &[u64], out: &m
         Reader::start(),
         &mut waiting,
         out,
-    );
-    match lefts {
-        Listed::Done(n, left) => {
-            draw_right(board, target, size / 2, draws, left, &mut waiting, n, out)
-        }
-        Listed::Refused(answer) => Keepers::Refused(answer),
-    }
+    )?;
+    draw_right(
+        board,
+        target,
+        size / 2,
+        draws,
+        lefts.left,
+        &mut waiting,
+        lefts.count,
+        out,
+    )
 }

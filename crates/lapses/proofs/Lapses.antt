@@ -9,13 +9,13 @@ use native.Mathlib.Omega.{arith}
 use lib.ListN.{length, get_or, set, drop}
 use lib.Seq.{set-get_or}
 use Rattle.types.specs.Numbers.{Shard, Id}
-use Rattle.types.specs.Places.{observes, pooled}
+use Rattle.types.specs.Places.{shard_id, observes, pooled}
 use Rattle.types.specs.declared.Place.{Place}
 use Rattle.types.specs.declared.Answer.TheVariants.{Done, OutOfRange, NotThere}
 use Rattle.types.specs.declared.Outcome.{Outcome}
 use Rattle.rules.specs.Lists.{◌or◌, bit_of, any, count, has, keep}
 use Rattle.rules.specs.Table.{Entry, entry, Table, is_some, at, stands, update, keys_where, keys_of}
-use Rattle.rules.specs.Board.{split, merge, Seat, Reshape, Board, most_machines, on_machines, on_committees, on_reshapes}
+use Rattle.rules.specs.Board.{split, merge, Seat, Reshape, Board, on_machines, on_committees, on_reshapes}
 use Rattle.rules.specs.WellFormed.{is_target, well_formed}
 use Rattle.rules.specs.Moves.{says, place, take_off, for_all, pooled_from, with_seats, is_kind, reshape_at}
 use Rattle.rules.specs.Turns.{checked, alone}
@@ -35,7 +35,6 @@ use Rattle.board.proofs.Keyed.{machines_rise, reshapes_rise, seats_rise}
 use Rattle.board.proofs.Moves.{place_at}
 use Rattle.reshapes.proofs.SeatMoves.{seats_in_row, reshape_at_lem}
 use Rattle.pool.proofs.Pools.{keys_none, keys_here}
-use Rattle.rows.specs.Found.{Found}
 use Rattle.rows.proofs.Asked.{holds_none, says_at}
 use Rattle.moves.specs.declared.Exit.TheVariants.{FromWatch}
 use Rattle.moves.proofs.Exiting.{split_unless, no_record, record_placed}
@@ -83,27 +82,27 @@ module _ (t : Table Seat) (k : ℕ) where
 
 -- ---- one machine, at row i
 
-module _ (b : Board) (ok : well_formed b ≡ true) (after : List ℕ) (x : Id) (t : Shard) (i : ℕ) (f : Found most_machines x no_machine b.machines i) where
+module _ (b : Board) (ok : well_formed b ≡ true) (after : List ℕ) (x : Id) (t : Shard) where
   abbrev Sent : ℕ → Type 0
   Sent r = (r ≡ bit_of (says (observes t) b x)) × Holds after (place x (pooled_from (observes t)) b)
 
-  pub sent_none : most_machines ≤ i → Holds after b → Sent 0
-  sent_none l h = (rw (holds_none x (observes t) b.machines (f.missing l)), no_record b ok after x (pooled_from (observes t)) i f l h)
+  pub sent_none : at x b.machines ≡ none → Holds after b → Sent 0
+  sent_none n h = (rw (holds_none x (observes t) b.machines n), no_record b ok after x (pooled_from (observes t)) n h)
 
-  module _ (l : i < most_machines) (c : Bool) (e : observes t (get_or b.machines i no_machine).val ≡ c) where
+  module _ (i : ℕ) (l : i < length b.machines) (k : (get_or b.machines i no_machine).key ≡ x) (c : Bool) (e : observes t (get_or b.machines i no_machine).val ≡ c) where
     told : says (observes t) b x ≡ c
-    told = sym (says_at b ok x i (f.inside l) (f.named l) (observes t)) ∙ e
+    told = sym (says_at b ok x i l k (observes t)) ∙ e
 
     pub sent_not : c ≡ false → Holds after b → Sent 0
     sent_not n h = (
       rw (told, n),
       held_as after _ _
-          (sym (place_at b x (pooled_from (observes t)) i (machines_rise b ok) (f.inside l) (f.named l)
+          (sym (place_at b x (pooled_from (observes t)) i (machines_rise b ok) l k
           ∙ rw (e, n) (ap (λ (m : Table Place). on_machines (λ _. m) b) (set-get_or b.machines i no_machine)))) h,
     )
 
     pub sent_one : c ≡ true → (p : Place) → p ≡ pooled (get_or b.machines i no_machine).val → Holds after (on_machines (λ m. set m i (entry x p)) b) → Sent 1
-    sent_one y p q h = (rw (told, y), record_placed b ok after x (pooled_from (observes t)) i f p l (rw (e, y) q) h)
+    sent_one y p q h = (rw (told, y), record_placed b ok after x (pooled_from (observes t)) i l k p (rw (e, y) q) h)
 
 -- ---- the cohort goes
 
@@ -144,7 +143,7 @@ module _ (t : Shard) (i : ℕ) (b : Board) (k r : ℕ) (ws : List ℕ) (w : Gone
       record {
         board = send_back t q.key w.board;
         held = done.1;
-        good = placed_well w.board w.good q.key FromWatch t;
+        good = placed_well w.board w.good q.key (FromWatch (shard_id t));
         reshapes = w.reshapes;
         rest = sym (ap (λ (ids : List ℕ). for_all (send_back t) ids w.board) next) ∙ w.rest;
         told =
@@ -177,7 +176,7 @@ module _ (t : Shard) (i : ℕ) (b : Board) (ok : well_formed b ≡ true) (l : i 
   sent = for_all (send_back t) (keys_of (seats_in_row i b)) b
 
   pub sent_well : well_formed sent ≡ true
-  sent_well = for_all_keeps (λ c. well_formed c ≡ true) (send_back t) (λ x c g. placed_well c g x FromWatch t) (keys_of (seats_in_row i b)) b ok
+  sent_well = for_all_keeps (λ c. well_formed c ≡ true) (send_back t) (λ x c g. placed_well c g x (FromWatch (shard_id t))) (keys_of (seats_in_row i b)) b ok
 
   sent_reshapes : sent.reshapes ≡ b.reshapes
   unfolding place

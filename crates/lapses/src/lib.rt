@@ -13,7 +13,7 @@ ghost use Rattle.board.specs.Layout.{board_size};
 ghost use Rattle.board.specs.Held.{Holds, no_reshape};
 ghost use Rattle.steps.specs.Inner.{Steps};
 
-use board::layout::{MOST_MACHINES, MOST_RESHAPES, MOST_SEATS};
+use board::layout::MOST_SEATS;
 use board::machines;
 use reshapes::{fields, seats};
 use types::{Answer, Machine, Outcome, ShardId, ValidatorId};
@@ -24,24 +24,15 @@ fn send_back(board: &mut [u64], target: ShardId, id: ValidatorId) -> u64
     ensures { (result ≤ 1) × ((b : Board) → Holds board.old b → well_formed b ≡ true →
         (result ≡ bit_of (says (observes target.0) b id.0)) × Holds board.new (place id.0 (pooled_from (observes target.0)) b)) }
 {
-    let i = rows::machine_row(board, id);
-    if MOST_MACHINES <= i {
+    let Some(i) = rows::find_machine(board, id) else {
         return 0;
-    }
-    let machine = machines::at(board, i);
-    let before = machine.place;
+    };
+    let before = machines::at(board, i).place;
     if !before.observes_shard(target) {
         return 0;
     }
-    let after = before.pooled();
-    machines::put(
-        board,
-        i,
-        Machine {
-            id: id,
-            place: after,
-        },
-    );
+    let place = before.pooled();
+    machines::put(board, i, Machine { id, place });
     1
 }
 
@@ -54,11 +45,9 @@ fn send_all_back(board: &mut [u64], target: ShardId, i: usize) -> u64
 {
     let n = steps::rows_within(seats::count(board, i), MOST_SEATS);
     let mut r: u64 = 0;
-    let mut k: usize = 0;
-    while k < n {
+    for k in 0..n {
         let seat = seats::at(board, i, k);
         r += send_back(board, target, seat.id);
-        k += 1;
     }
     r
 }
@@ -83,10 +72,9 @@ pub fn lapse_split_held(board: &mut [u64], target: ShardId) -> Outcome
     if !rows::is_target(target) {
         return steps::refusal(Answer::OutOfRange);
     }
-    let i = rows::reshape_row(board, target);
-    if MOST_RESHAPES <= i {
+    let Some(i) = rows::find_reshape(board, target) else {
         return steps::refusal(Answer::NotThere);
-    }
+    };
     if fields::is_merge(board, i) {
         return steps::refusal(Answer::NotThere);
     }

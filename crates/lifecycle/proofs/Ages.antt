@@ -7,6 +7,7 @@ use native.Mathlib.Omega.{arith}
 use native.Mathlib.Numerals.{add-one}
 use lib.ListN.{length, get_or, set, drop, drop_of_length-le}
 use lib.Seq.{set-get_or, drop-cons}
+use mir.Val.{bool_byte}
 use Rattle.types.specs.Places.{is_overdue, made_ready}
 use Rattle.types.specs.declared.Place.{Place}
 use Rattle.types.specs.declared.Machine.{Machine}
@@ -31,15 +32,15 @@ module _ (b : Board) (i epoch wait : ℕ) (m : Machine) (me : m ≡ machine_of (
   is q t = ap (λ (y : Machine). is_overdue epoch wait y.place) (sym me) ∙ sym re ∙ t
 
   pub age_yes : r ≡ true → (q : Place) → q ≡ made_ready m.place → Holds ws (on_machines (λ t. set t i (entry m.id.0 q)) b)
-      → (1 ≡ bit_of (is_overdue epoch wait e.val)) × Holds ws (on_machines (aged epoch wait i) b)
+      → (true ≡ is_overdue epoch wait e.val) × Holds ws (on_machines (aged epoch wait i) b)
   age_yes t q qe h = (
-    sym (ap bit_of (is true t)),
+    sym (is true t),
     subst (λ (y : Entry Place). Holds ws (on_machines (λ u. set u i y) b)) (ap (entry m.id.0) qe ∙ ap (λ (y : Machine). entry y.id.0 (made_ready y.place)) me ∙ ap (λ c. entry e.key (cond c (made_ready e.val) e.val)) (sym (is true t))) h,
   )
 
-  pub age_no : r ≡ false → Holds ws b → (0 ≡ bit_of (is_overdue epoch wait e.val)) × Holds ws (on_machines (aged epoch wait i) b)
+  pub age_no : r ≡ false → Holds ws b → (false ≡ is_overdue epoch wait e.val) × Holds ws (on_machines (aged epoch wait i) b)
   age_no t h = (
-    sym (ap bit_of (is false t)),
+    sym (is false t),
     subst (λ (u : Table Place). Holds ws (on_machines (λ v. u) b)) (sym (ap (λ c. set b.machines i (entry e.key (cond c (made_ready e.val) e.val))) (is false t) ∙ set-get_or b.machines i no_machine)) h,
   )
 
@@ -89,6 +90,14 @@ pub come_none : (epoch wait i : ℕ) (t : Table Place) → length t ≤ i → to
 unfolding count_where count
 come_none epoch wait i t h = ap (count_where (is_overdue epoch wait)) (drop_of_length-le t h)
 
+bit_is : (c : Bool) → bool_byte c ≡ bit_of c
+bit_is true = refl
+bit_is false = refl
+
+pub bit_small : (c : Bool) → bool_byte c ≤ 1
+bit_small true = omega arith
+bit_small false = omega arith
+
 -- the loop so far, of every board: i rows walked and k made ready
 pub record SoFar (b : Board) (epoch wait n k i : ℕ) (ws : List ℕ) : Type 0 where
   pub epoch_is : epoch ≡ epoch_of b
@@ -99,13 +108,14 @@ pub record SoFar (b : Board) (epoch wait n k i : ℕ) (ws : List ℕ) : Type 0 w
 
 module _ (b : Board) (epoch wait n k i : ℕ) (ws : List ℕ) (s : SoFar b epoch wait n k i ws) where
   -- what one turn reads and leaves
-  pub age_turn : i < n → (more : ℕ) (after : List ℕ)
-      → ((c : Board) → Holds ws c → i < length c.machines → (more ≡ bit_of (is_overdue epoch wait (get_or c.machines i no_machine).val)) × Holds after (on_machines (aged epoch wait i) c))
+  pub age_turn : i < n → (made : Bool) (more : ℕ) (after : List ℕ) → more ≡ bool_byte made
+      → ((c : Board) → Holds ws c → i < length c.machines → (made ≡ is_overdue epoch wait (get_or c.machines i no_machine).val) × Holds after (on_machines (aged epoch wait i) c))
       → SoFar b epoch wait n (k + more) (i + 1) after
-  age_turn l more after step =
+  age_turn l made more after q step =
       let here : i < length b.machines = omega (arith, s.rows) in
       let r = step _ s.held (omega (arith, map_to_length (aged_entry epoch wait) i b.machines)) in
-      let m : more ≡ bit_of (is_overdue epoch wait (get_or b.machines i no_machine).val) = r.0 ∙ ap (λ (y : Entry Place). bit_of (is_overdue epoch wait y.val)) (map_to_at (aged_entry epoch wait) i b.machines no_machine) in
+      let m : more ≡ bit_of (is_overdue epoch wait (get_or b.machines i no_machine).val) =
+      q ∙ bit_is made ∙ ap bit_of r.0 ∙ ap (λ (y : Entry Place). bit_of (is_overdue epoch wait y.val)) (map_to_at (aged_entry epoch wait) i b.machines no_machine) in
       record {
         epoch_is = s.epoch_is;
         wait_is = s.wait_is;

@@ -4,7 +4,6 @@
 ghost use Rattle.std.specs.Prelude.{◌≡◌, ◌≤◌, ◌<◌, length, get_or};
 ghost use Rattle.types.specs.Places.{is_overdue};
 ghost use Rattle.rules.specs.Board.{Board, most_machines, on_machines};
-ghost use Rattle.rules.specs.Lists.{bit_of};
 ghost use Rattle.board.specs.Held.{Holds, no_machine};
 ghost use Rattle.board.specs.Layout.{board_size};
 ghost use Rattle.rules.specs.Places.{tick, time_out};
@@ -29,27 +28,19 @@ pub fn tick_held(board: &mut [u64]) -> Outcome
     steps::done(1, 0)
 }
 
-// The machine at row i becomes ready where it is overdue: 1, else 0.
-fn age_at(board: &mut [u64], i: usize, epoch: Epoch, wait: u64) -> u64
+// The machine at row i becomes ready where it is overdue; whether it is.
+fn age_at(board: &mut [u64], i: usize, epoch: Epoch, wait: u64) -> bool
     requires { (length board.old ≡ board_size) × (i < most_machines) }
-    ensures { (result ≤ 1) × ((b : Board) → Holds board.old b → i < length b.machines →
-        (result ≡ bit_of (is_overdue epoch.0 wait (get_or b.machines i no_machine).val)) × Holds board.new (on_machines (aged epoch.0 wait i) b)) }
+    ensures { (b : Board) → Holds board.old b → i < length b.machines →
+        (result ≡ is_overdue epoch.0 wait (get_or b.machines i no_machine).val) × Holds board.new (on_machines (aged epoch.0 wait i) b) }
 {
     let m = machines::at(board, i);
-    let p = m.place;
-    if p.is_overdue(epoch, wait) {
-        let id = m.id;
-        machines::put(
-            board,
-            i,
-            Machine {
-                id: id,
-                place: p.made_ready(),
-            },
-        );
-        return 1;
+    if !m.place.is_overdue(epoch, wait) {
+        return false;
     }
-    0
+    let place = m.place.made_ready();
+    machines::put(board, i, Machine { place, ..m });
+    true
 }
 
 // The ready timeout, for words that are known to hold a well-formed board.
@@ -61,10 +52,8 @@ pub fn auto_ready_timeout_held(board: &mut [u64]) -> Outcome
     let wait = settings::ready_wait(board);
     let n = steps::rows_within(machines::count(board), MOST_MACHINES);
     let mut k: u64 = 0;
-    let mut i: usize = 0;
-    while i < n {
-        k += age_at(board, i, epoch, wait);
-        i += 1;
+    for i in 0..n {
+        k += u64::from(age_at(board, i, epoch, wait));
     }
     steps::done(k, 0)
 }

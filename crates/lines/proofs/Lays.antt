@@ -1,14 +1,17 @@
 -- What is put one after another in a line.
-use Prim.Native.Nat.{ℕ, suc, ◌+◌, ◌-◌, ◌≤◌, ◌<◌, min}
+use Prim.Native.Nat.{ℕ, ◌+◌, ◌-◌, ◌≤◌, ◌<◌, min}
 use mathlib.Core.Path.{◌≡◌, refl, ap, sym, ◌∙◌}
 use mathlib.Core.Bool.{Bool, true, false}
-use mathlib.Core.List.{List, [], ◌∷◌, ◌++◌, append_assoc, append-nil}
+use mathlib.Core.List.{List, [], ◌++◌, append_assoc, append-nil}
 use native.Mathlib.Omega.{arith}
-use native.Mathlib.Numerals.{add-one}
+use native.Mathlib.Nat.{add-zero}
 use borrow.Author.Tests.{ltb-true, ltb-false}
 use lib.Dec.{ltb}
-use lib.ListN.{length, take, drop, set, length-replicate, get_or-replicate, length-append, length-set, get_or, take-append-drop}
-use lib.Seq.{take_all, take-suc, take-suc-set, take-append-le, drop-set-lt, drop-drop, length-take-le, take-take}
+use lib.ListN.{length, take, drop, replicate, length-replicate, length-append, length-drop}
+use lib.Seq.{take_all, take-append-le, take-append-add, drop-drop, length-take-le, take-take}
+use borrow.Rule.Slice.PartMut.{put_mid, same_len_mid}
+use Rattle.std.proofs.lemmas.List.{take-replicate}
+use Rattle.std.proofs.lemmas.Slice.{take-put_mid, drop-put_mid}
 use Rattle.lines.specs.Says.{Puts}
 use Rattle.lines.specs.Numeral.{spaces}
 
@@ -22,35 +25,6 @@ kept_on_lem l m a b e h =
     rw (← z, ← drop-drop (b - a) a m, ← drop-drop (b - a) a l, e)
 
 module _ {l u m : List ℕ} {at a : ℕ} (p : Puts l at u m a) where
-  -- one byte more, where there is room
-  pub puts_one : (b : ℕ) → a < length m → Puts l at (u ++ b ∷ []) (set m a b) (a + 1)
-  puts_one b h = record {
-    room = length-set m a b ∙ p.room;
-    says = λ t s. let q = p.says t s in
-        let e : a ≡ length (t ++ u) = omega (arith, q.place) in
-        record {
-          place = omega (arith, length-set m a b, length-append t u, length-append t (u ++ b ∷ []), length-append u (b ∷ []));
-          text =
-              rw add-one (take-suc-set m a b h ∙ ap (λ (x : List ℕ). x ++ b ∷ []) (q.text ∙ take_all a (t ++ u) (omega arith)) ∙ append_assoc t u (b ∷ [])
-              ∙ sym (take_all (suc a) (t ++ (u ++ b ∷ [])) (omega (arith, length-append t u, length-append t (u ++ b ∷ []), length-append u (b ∷ [])))));
-        };
-    kept = drop-set-lt (a + 1) m a b (omega arith) ∙ kept_on_lem l m a (a + 1) p.kept (omega arith);
-    past = λ z. absurd (omega (arith, (p.past z).0, p.room));
-  }
-
-  -- no room: the rest is cut
-  pub puts_cut : (v : List ℕ) → length m ≤ a → Puts l at (u ++ v) m a
-  puts_cut v h = record {
-    room = p.room;
-    says = λ t s. let q = p.says t s in
-        record {
-          place = omega (arith, q.place, length-append t u, length-append t (u ++ v), length-append u v);
-          text = q.text ∙ sym (take-append-le a (t ++ u) v (omega (arith, q.place))) ∙ ap (take a) (append_assoc t u v);
-        };
-    kept = p.kept;
-    past = p.past;
-  }
-
   -- the next place is never before the last
   forth : at ≤ a
   forth = go (ltb (length l) at) refl
@@ -71,20 +45,46 @@ puts_both {l} {u} {m} {v} {n} {at} {a} {b} p q = record {
   past = λ z. let x = p.past z in let y = q.past (omega (arith, x.0, p.room)) in (y.0 ∙ x.0, y.1 ∙ x.1);
 }
 
--- ---- a loop that puts s byte by byte: a turn, no more room, and the end
+-- ---- s from a place within the room on, as much of it as fits
 
-module _ (s : List ℕ) (i : ℕ) {l m : List ℕ} {at a : ℕ} (p : Puts l at (take i s) m a) where
-  pub puts_turn : i < length s → a < length m → Puts l at (take (i + 1) s) (set m a (get_or s i 0)) (a + 1)
-  puts_turn h g = rw (add-one i, take-suc s i 0 h) (puts_one p (get_or s i 0) g)
+seam : (t s : List ℕ) (a n : ℕ) → a ≤ length t → (a < length t → n ≡ 0) → take a t ++ take n s ≡ take (a + n) (t ++ s)
+seam t s a n h z = go (ltb a (length t)) refl
+  where
+    go : (c : Bool) → ltb a (length t) ≡ c → take a t ++ take n s ≡ take (a + n) (t ++ s)
+    go true e = let i : n ≡ 0 = z (ltb-true a (length t) e) in rw (i, append-nil, add-zero) (sym (take-append-le a t s h))
+    go false e = let i : a ≡ length t = omega (arith, ltb-false a (length t) e) in rw (i, take_all (length t) t (omega arith)) (sym (take-append-add t s n))
 
-  pub puts_stopped : length m ≤ a → Puts l at s m a
-  puts_stopped h = rw (take-append-drop i s) at (puts_cut p (drop i s) h)
+pub puts_fitting : (l s : List ℕ) (at n : ℕ) → at ≤ length l → n ≡ min (length s) (length l - at) → Puts l at s (put_mid at (at + n - at) l (take n s)) (at + n)
+puts_fitting l s at n h e =
+    let k : at + n - at ≡ n = omega arith in
+    let w : length (take n s) ≡ n = length-take-le n s (omega arith) in
+    let room = same_len_mid at n l (take n s) (omega (arith, w, length-take-le n (drop at l), length-drop at l)) in
+    rw k (record {
+      room = room;
+      says = λ t q. record {
+        place = omega (arith, q.place, room, length-append t s);
+        text = take-put_mid at n l (take n s) (at + n) (omega arith) h ∙ ap (λ (x : List ℕ). x ++ take n s) q.text ∙ seam t s at n (omega (arith, q.place)) (λ z. omega (arith, q.place));
+      };
+      kept = drop-put_mid at n l (take n s) (at + n) (omega arith) h w;
+      past = λ z. absurd (omega arith);
+    })
 
-  pub puts_ended : length s ≤ i → Puts l at s m a
-  puts_ended h = rw (take_all i s h) at p
+-- n of m blanks, where ys fills the room that there is for them
+pub blanks_fitting : (l ys : List ℕ) (at n m : ℕ) → at ≤ length l → n ≡ min m (length l - at) → ys ≡ replicate (length (take (at + n - at) (drop at l))) 32
+    → Puts l at (spaces m) (put_mid at (at + n - at) l ys) (at + n)
+blanks_fitting l ys at n m h e f =
+    let k : length (take (at + n - at) (drop at l)) ≡ n = length-take-le (at + n - at) (drop at l) (omega (arith, length-drop at l)) ∙ omega arith in
+    let y : ys ≡ take n (spaces m) = f ∙ rw k (sym (take-replicate n m 32 (omega arith))) in
+    rw y (puts_fitting l (spaces m) at n h (omega (arith, length-replicate {A = ℕ} m 32)))
 
-pub blanks_turn : (n i : ℕ) {l m : List ℕ} {at a : ℕ} → Puts l at (take i (spaces n)) m a → i < n → a < length m → Puts l at (take (i + 1) (spaces n)) (set m a 32) (a + 1)
-blanks_turn n i p h g = rw (get_or-replicate {A = ℕ} n i 32 0 h) at (puts_turn (spaces n) i p (omega (arith, length-replicate {A = ℕ} n 32)) g)
+-- a place past the room writes nothing
+pub puts_past : (l s : List ℕ) (at : ℕ) → length l < at → Puts l at s l at
+puts_past l s at h = record {
+  room = refl;
+  says = λ t q. absurd (omega (arith, q.place));
+  kept = refl;
+  past = λ z. (refl, refl);
+}
 
 -- what is laid is within the room
 pub take_within : (n : ℕ) (l : List ℕ) → take (min n (length l)) l ≡ take n l

@@ -2,4 +2,3 @@ pub mod Lays
 pub mod Numerals
 pub mod Shown
 pub mod Widths
-pub mod Rests

@@ -3,7 +3,7 @@ use Prim.Native.Nat.{ℕ, zero, suc, ◌+◌, ◌-◌, ◌*◌, ◌/◌, ◌%◌
 use mathlib.Core.Path.{◌≡◌, refl, ap, ◌∙◌}
 use mathlib.Core.Bool.{Bool, true, false, cond}
 use mathlib.Core.List.{List, [], ◌∷◌, ◌++◌}
-use mathlib.Core.Option.{none, some}
+use Rattle.std.specs.Prelude.{Some, None}
 use native.Mathlib.Omega.{arith}
 use native.Mathlib.Nat.{pow-suc}
 use borrow.Author.Tests.{lt-ltb, ltb-true, le-leb}
@@ -14,20 +14,20 @@ use Rattle.numerals.specs.Decimal.{last_number, is_digit, value_from, in_word, d
 use Rattle.lines.specs.Numeral.{places_to, places, numeral}
 
 -- one digit more
-value_more : (v w b : ℕ) (l : List ℕ) → value_from v l ≡ some w → value_from v (l ++ b ∷ []) ≡ value_from w (b ∷ [])
+value_more : (v w b : ℕ) (l : List ℕ) → value_from v l ≡ Some w → value_from v (l ++ b ∷ []) ≡ value_from w (b ∷ [])
 unfolding value_from
 value_more v w b [] e = let s : v ≡ w = cc in rw s
 value_more v w b (c ∷ l) e = go (is_digit c) e (value_more (v * 10 + (c - 48)) w b l)
   where
-    go : (d : Bool) → cond d (value_from (v * 10 + (c - 48)) l) none ≡ some w
-        → (value_from (v * 10 + (c - 48)) l ≡ some w → value_from (v * 10 + (c - 48)) (l ++ b ∷ []) ≡ value_from w (b ∷ []))
-        → cond d (value_from (v * 10 + (c - 48)) (l ++ b ∷ [])) none ≡ value_from w (b ∷ [])
+    go : (d : Bool) → cond d (value_from (v * 10 + (c - 48)) l) None ≡ Some w
+        → (value_from (v * 10 + (c - 48)) l ≡ Some w → value_from (v * 10 + (c - 48)) (l ++ b ∷ []) ≡ value_from w (b ∷ []))
+        → cond d (value_from (v * 10 + (c - 48)) (l ++ b ∷ [])) None ≡ value_from w (b ∷ [])
     go true e rec = rec e
     go false e rec = absurd (let z : ◌≡◌ {A = ℕ} 0 1 = cc in omega arith)
 
-digits_value : (k n : ℕ) → n < 10 ^ k → value_from 0 (last_digits 10 k n) ≡ some n
+digits_value : (k n : ℕ) → n < 10 ^ k → value_from 0 (last_digits 10 k n) ≡ Some n
 unfolding value_from
-digits_value zero n h = let z : 0 ≡ n = omega arith in ap some z
+digits_value zero n h = let z : 0 ≡ n = omega arith in ap Some z
 digits_value (suc k) n h =
     let s : n < 10 ^ k * 10 = rw (pow-suc 10 k) at h in
     let g : hex_digit_ascii (n % 10) ≡ 48 + n % 10 = rw (lt-ltb (n % 10) 10 (omega arith)) in
@@ -48,7 +48,7 @@ enough (suc f) n h = go (ltb n 10) refl (enough f (n / 10))
         let r = rec (omega arith) in
         rw (pow-suc 10 (places_to f (n / 10))) (omega arith)
 
-decimal_is : (l : List ℕ) (n : ℕ) → 0 < length l → value_from 0 l ≡ some n → n ≤ last_number → decimal_of l ≡ some n
+decimal_is : (l : List ℕ) (n : ℕ) → 0 < length l → value_from 0 l ≡ Some n → n ≤ last_number → decimal_of l ≡ Some n
 unfolding decimal_of in_word
 decimal_is [] n h e s = absurd (omega arith)
 decimal_is (b ∷ l) n h e s = rw (e, le-leb n last_number s)
@@ -66,7 +66,7 @@ places_some (suc f) n = go (ltb n 10)
     go true = omega arith
     go false = omega arith
 
-pub shown_is_read : (n : ℕ) → n ≤ last_number → decimal_of (numeral 0 n) ≡ some n
+pub shown_is_read : (n : ℕ) → n ≤ last_number → decimal_of (numeral 0 n) ≡ Some n
 unfolding numeral
 shown_is_read n h =
     let z : 0 - places n ≡ 0 = omega arith in

@@ -4,6 +4,7 @@ use mathlib.Core.List.{List}
 use mathlib.Core.Option.{none}
 use mathlib.Core.Bool.{Bool, true, false}
 use Prim.Native.Nat.{ℕ, ◌≤◌, ◌<◌}
+use native.Mathlib.Omega.{arith}
 use borrow.Author.Tests.{lt-ltb, le-ltb}
 use lib.Dec.{eqb, ltb}
 use lib.ListN.{length, get_or, set}
@@ -21,22 +22,23 @@ use Rattle.tables.proofs.Keys.{at_is}
 use Rattle.board.specs.Held.{Holds, no_reshape}
 use Rattle.board.specs.Leaves.{change_at}
 use Rattle.board.proofs.Keyed.{update_is_change, reshapes_rise}
+use Rattle.reshapes.specs.declared.Side.{Side}
+use Rattle.reshapes.specs.declared.Side.TheVariants.{Left, Right}
+use Rattle.reshapes.specs.Changes.{with_quiet_on}
 use Rattle.steps.specs.Inner.{outcome, Step}
+use Rattle.marks.specs.Sides.{side_number}
 
--- one side, as the leaves write it
-left_quiet : (side : ℕ) (r : Reshape) → side ≡ 0 → with_quiet (λ q. true) (λ q. q) r ≡ quieted side r
+-- a side made quiet, as the leaf writes it
+made_on : (s : Side) (r : Reshape) → with_quiet_on s r ≡ quieted (side_number s) r
 unfolding quieted ◌or◌
-left_quiet side r e = rw e (go r.quiet_left r.quiet_right)
+made_on Left r = go r.quiet_left r.quiet_right
   where
     go : (p q : Bool) → with_quiet (λ _. true) (λ _. q) r ≡ with_quiet (λ _. p or true) (λ _. q or false) r
     go true true = refl
     go true false = refl
     go false true = refl
     go false false = refl
-
-right_quiet : (side : ℕ) (r : Reshape) → side ≡ 1 → with_quiet (λ q. q) (λ q. true) r ≡ quieted side r
-unfolding quieted ◌or◌
-right_quiet side r e = rw e (go r.quiet_left r.quiet_right)
+made_on Right r = go r.quiet_left r.quiet_right
   where
     go : (p q : Bool) → with_quiet (λ _. p) (λ _. true) r ≡ with_quiet (λ _. p or false) (λ _. q or true) r
     go true true = refl
@@ -44,15 +46,12 @@ right_quiet side r e = rw e (go r.quiet_left r.quiet_right)
     go false true = refl
     go false false = refl
 
-module _ (b : Board) (i side : ℕ) (ws : List ℕ) where
-  abbrev changed_to : Reshape → Type 0
-  changed_to v = Holds ws (on_reshapes (λ t. set t i (entry (get_or t i no_reshape).key v)) b)
+pub side_made : (b : Board) (i : ℕ) (ws : List ℕ) (s : Side) → Holds ws (on_reshapes (change_at no_reshape i (with_quiet_on s)) b) → Holds ws (on_reshapes (change_at no_reshape i (quieted (side_number s))) b)
+side_made b i ws s h = subst (λ (v : Reshape). Holds ws (on_reshapes (λ t. set t i (entry (get_or t i no_reshape).key v)) b)) (made_on s (get_or b.reshapes i no_reshape).val) h
 
-  pub left_made : side ≡ 0 → Holds ws (on_reshapes (change_at no_reshape i (with_quiet (λ q. true) (λ q. q))) b) → Holds ws (on_reshapes (change_at no_reshape i (quieted side)) b)
-  left_made e h = subst changed_to (left_quiet side (get_or b.reshapes i no_reshape).val e) h
-
-  pub right_made : side ≡ 1 → Holds ws (on_reshapes (change_at no_reshape i (with_quiet (λ q. q) (λ q. true))) b) → Holds ws (on_reshapes (change_at no_reshape i (quieted side)) b)
-  right_made e h = subst changed_to (right_quiet side (get_or b.reshapes i no_reshape).val e) h
+pub side_within : (s : Side) → side_number s ≤ 1
+side_within Left = omega arith
+side_within Right = omega arith
 
 module _ (b : Board) (ok : well_formed b ≡ true) (after : List ℕ) (r : Outcome) (t side : ℕ) where
   pub no_target : is_target t ≡ false → Holds after b → r ≡ outcome OutOfRange 0 0 → Step (mark_quiet t side) b after r

@@ -11,7 +11,6 @@ ghost use Rattle.board.specs.Held.{Holds, no_reshape};
 ghost use Rattle.reshapes.specs.Changes.{kind_of};
 ghost use Rattle.moves.specs.Exits.{exit_of};
 
-use board::layout::{MOST_COMMITTEES, MOST_MACHINES, MOST_RESHAPES, MOST_SEATS};
 use board::{committees, machines};
 use reshapes::{fields, seats};
 use types::{Machine, Place, ShardId, ValidatorId};
@@ -20,52 +19,47 @@ use types::{Machine, Place, ShardId, ValidatorId};
 #[derive(Clone, Copy)]
 pub enum Exit {
     Short,
-    FromSeat,
-    FromWatch,
+    FromSeat(ShardId),
+    FromWatch(ShardId),
     Anyhow,
 }
 
-fn place_after(how: Exit, shard: ShardId, p: Place) -> Place
-    ensures { result ≡ exit_of how shard.0 p }
-{
-    match how {
-        Exit::Short => p.short(),
-        Exit::FromSeat => {
-            if p.is_seated_on(shard) {
-                return p.pooled();
+impl Exit {
+    fn place_after(self, place: Place) -> Place
+        ensures { result ≡ exit_of self place }
+    {
+        match self {
+            Exit::Short => place.short(),
+            Exit::FromSeat(shard) => {
+                if place.is_seated_on(shard) {
+                    place.pooled()
+                } else {
+                    place
+                }
             }
-            p
-        }
-        Exit::FromWatch => {
-            if p.observes_shard(shard) {
-                return p.pooled();
+            Exit::FromWatch(shard) => {
+                if place.observes_shard(shard) {
+                    place.pooled()
+                } else {
+                    place
+                }
             }
-            p
+            Exit::Anyhow => place.pooled(),
         }
-        Exit::Anyhow => p.pooled(),
     }
 }
 
 // Its place changed, where it has a record.
-pub fn place(board: &mut [u64], how: Exit, shard: ShardId, id: ValidatorId)
+pub fn place(board: &mut [u64], how: Exit, id: ValidatorId)
     requires { length board.old ≡ board_size }
-    ensures { (b : Board) → Holds board.old b → well_formed b ≡ true → Holds board.new (moves.place id.0 (exit_of how shard.0) b) }
+    ensures { (b : Board) → Holds board.old b → well_formed b ≡ true → Holds board.new (moves.place id.0 (exit_of how) b) }
 {
-    let i = rows::machine_row(board, id);
-    if MOST_MACHINES <= i {
+    let Some(i) = rows::find_machine(board, id) else {
         return;
-    }
+    };
     let machine = machines::at(board, i);
-    let before = machine.place;
-    let after = place_after(how, shard, before);
-    machines::put(
-        board,
-        i,
-        Machine {
-            id: id,
-            place: after,
-        },
-    );
+    let place = how.place_after(machine.place);
+    machines::put(board, i, Machine { id, place });
 }
 
 // Struck from the shard's committee.
@@ -73,19 +67,18 @@ pub fn quit(board: &mut [u64], shard: ShardId, id: ValidatorId)
     requires { length board.old ≡ board_size }
     ensures { (b : Board) → Holds board.old b → well_formed b ≡ true → Holds board.new (moves.quit shard.0 id.0 b) }
 {
-    let j = rows::committee_row(board, shard);
-    if MOST_COMMITTEES <= j {
+    let Some(j) = rows::find_committee(board, shard) else {
         return;
-    }
+    };
     committees::strike_member(board, j, id);
 }
 
 // Off a shard: a new place, and no member.
 pub fn take_off(board: &mut [u64], how: Exit, shard: ShardId, id: ValidatorId)
     requires { length board.old ≡ board_size }
-    ensures { (b : Board) → Holds board.old b → well_formed b ≡ true → Holds board.new (take_off shard.0 (exit_of how shard.0) id.0 b) }
+    ensures { (b : Board) → Holds board.old b → well_formed b ≡ true → Holds board.new (take_off shard.0 (exit_of how) id.0 b) }
 {
-    place(board, how, shard, id);
+    place(board, how, id);
     quit(board, shard, id);
 }
 
@@ -93,11 +86,7 @@ fn is_of_kind(board: &[u64], i: usize, merging: bool) -> bool
     requires { (length board.now ≡ board_size) × (i < most_reshapes) }
     ensures { (b : Board) → Holds board.now b → i < length b.reshapes → result ≡ is_kind (kind_of merging) (get_or b.reshapes i no_reshape).val }
 {
-    let merges = fields::is_merge(board, i);
-    if merging {
-        return merges;
-    }
-    !merges
+    fields::is_merge(board, i) == merging
 }
 
 // A machine's seat in a reshape of a kind goes.
@@ -105,16 +94,14 @@ pub fn give_up_seat(board: &mut [u64], merging: bool, target: ShardId, id: Valid
     requires { length board.old ≡ board_size }
     ensures { (b : Board) → Holds board.old b → well_formed b ≡ true → Holds board.new (give_up_seat (kind_of merging) target.0 id.0 b) }
 {
-    let i = rows::reshape_row(board, target);
-    if MOST_RESHAPES <= i {
+    let Some(i) = rows::find_reshape(board, target) else {
         return;
-    }
+    };
     if !is_of_kind(board, i, merging) {
         return;
     }
-    let k = rows::seat_row(board, i, id);
-    if MOST_SEATS <= k {
+    let Some(k) = rows::find_seat(board, i, id) else {
         return;
-    }
+    };
     seats::close(board, i, k);
 }

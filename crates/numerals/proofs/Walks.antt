@@ -3,13 +3,13 @@ use Prim.Native.Nat.{ℕ, suc, ◌+◌, ◌-◌, ◌≤◌, ◌<◌}
 use mathlib.Core.Path.{◌≡◌, refl, ap, sym, ◌∙◌}
 use mathlib.Core.Bool.{Bool, true, false, cond}
 use mathlib.Core.List.{List, [], ◌∷◌, ◌++◌, append_assoc, append-nil}
-use mathlib.Core.Option.{none, some}
+use Rattle.std.specs.Prelude.{Some, None, Ok, Err}
 use native.Mathlib.Omega.{arith}
 use native.Mathlib.Numerals.{add-one}
 use borrow.Author.Tests.{lt-ltb, le-ltb}
 use lib.ListN.{length, get_or, take, drop, set, length-set, take-append-drop, drop_of_length-le}
 use lib.Seq.{drop-cons, drop-drop, drop-set-lt, take-suc-set, take_all}
-use Rattle.numerals.specs.declared.Parsed.TheVariants.{Read, Stopped, TooMany}
+use Rattle.numerals.specs.declared.NumbersError.TheVariants.{NotANumber, TooMany}
 use Rattle.numerals.specs.Decimal.{value_from, in_word, decimal_of}
 use Rattle.numerals.specs.Pieces.{between, run_of, Piece, ended, pieces, pieces_of, then, numbers_of, laid_over, goes_on, end_of}
 
@@ -83,7 +83,7 @@ module _ (t out : List ℕ) (at n : ℕ) (o : List ℕ) (w : Walk t out at n o) 
       record { room = w.room; within = w.within; end = rw e at w.end; laid = rw e at w.laid }
 
   -- nothing is left
-  pub walk_ends : length t ≤ at → (Read n ≡ end_of (length out) 0 (pieces_of t)) × (o ≡ laid_over (numbers_of (pieces_of t)) out)
+  pub walk_ends : length t ≤ at → (Ok n ≡ end_of (length out) 0 (pieces_of t)) × (o ≡ laid_over (numbers_of (pieces_of t)) out)
   unfolding pieces ended numbers_of laid_over end_of
   walk_ends h =
       let z : drop at t ≡ [] = drop_of_length-le t h in
@@ -98,17 +98,17 @@ module _ (t out : List ℕ) (at n : ℕ) (o : List ℕ) (w : Walk t out at n o) 
         let k : e - at ≡ length (run_of l) = omega arith in
         runs at [] l ∙ ended_some at (get_or t at 0) (run_of (drop (suc at) t)) (run_of l) _ q ∙ rw (k, run_is l, drop-drop (length (run_of l)) at t, ← s)
 
-    pub walk_stops : decimal_of (take (e - at) (drop at t)) ≡ none → (Stopped at ≡ end_of (length out) 0 (pieces_of t)) × (o ≡ laid_over (numbers_of (pieces_of t)) out)
+    pub walk_stops : decimal_of (take (e - at) (drop at t)) ≡ None → (Err (NotANumber at) ≡ end_of (length out) 0 (pieces_of t)) × (o ≡ laid_over (numbers_of (pieces_of t)) out)
     unfolding numbers_of then laid_over end_of goes_on
     walk_stops d = (rw (piece_is, d) at w.end, sym (take-append-drop n o) ∙ rw (piece_is, d) at w.laid)
 
-    pub walk_full : (v : ℕ) → decimal_of (take (e - at) (drop at t)) ≡ some v → length o ≤ n → (TooMany ≡ end_of (length out) 0 (pieces_of t)) × (o ≡ laid_over (numbers_of (pieces_of t)) out)
+    pub walk_full : (v : ℕ) → decimal_of (take (e - at) (drop at t)) ≡ Some v → length o ≤ n → (Err TooMany ≡ end_of (length out) 0 (pieces_of t)) × (o ≡ laid_over (numbers_of (pieces_of t)) out)
     unfolding numbers_of then laid_over end_of goes_on
     walk_full v d f =
         let z : drop n o ≡ [] = drop_of_length-le o f in
         (rw (piece_is, d, le-ltb n (length out) (omega (arith, w.room))) at w.end, sym (take_all n o f) ∙ sym (append-nil (take n o)) ∙ rw (piece_is, d, z) at w.laid)
 
-    pub walk_takes : (v : ℕ) → decimal_of (take (e - at) (drop at t)) ≡ some v → n < length o → Walk t out e (n + 1) (set o n v)
+    pub walk_takes : (v : ℕ) → decimal_of (take (e - at) (drop at t)) ≡ Some v → n < length o → Walk t out e (n + 1) (set o n v)
     unfolding numbers_of then laid_over end_of goes_on
     walk_takes v d f = record {
       room = length-set o n v ∙ w.room;
@@ -118,6 +118,6 @@ module _ (t out : List ℕ) (at n : ℕ) (o : List ℕ) (w : Walk t out at n o) 
     }
 
 -- "3, 2,1" has three numbers; "7 x" stops at its third byte; there is no room for the second of "1 2"
-pub texts : (numbers_of (pieces_of (51 ∷ 44 ∷ 32 ∷ 50 ∷ 44 ∷ 49 ∷ [])) ≡ 3 ∷ 2 ∷ 1 ∷ []) × (end_of 4 0 (pieces_of (55 ∷ 32 ∷ 120 ∷ [])) ≡ Stopped 2) × (end_of 1 0 (pieces_of (49 ∷ 32 ∷ 50 ∷ [])) ≡ TooMany)
+pub texts : (numbers_of (pieces_of (51 ∷ 44 ∷ 32 ∷ 50 ∷ 44 ∷ 49 ∷ [])) ≡ 3 ∷ 2 ∷ 1 ∷ []) × (end_of 4 0 (pieces_of (55 ∷ 32 ∷ 120 ∷ [])) ≡ Err (NotANumber 2)) × (end_of 1 0 (pieces_of (49 ∷ 32 ∷ 50 ∷ [])) ≡ Err TooMany)
 unfolding between pieces ended decimal_of value_from in_word numbers_of then end_of goes_on
 texts = (refl, refl, refl)

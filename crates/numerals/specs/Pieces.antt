@@ -1,8 +1,7 @@
 -- A text of numbers: its pieces, and what is read of them.
-use Rattle.std.specs.Prelude.{ℕ, suc, ◌+◌, Bool, true, false, ◌||◌, cond, List, [], ◌∷◌, ◌++◌, eqb, ltb, length}
-use Rattle.std.proofs.Math.Option.{Option, none, some}
-use Rattle.numerals.specs.declared.Parsed.{Parsed}
-use Rattle.numerals.specs.declared.Parsed.TheVariants.{Read, Stopped, TooMany}
+use Rattle.std.specs.Prelude.{ℕ, suc, ◌+◌, Bool, true, false, ◌||◌, cond, List, [], ◌∷◌, ◌++◌, eqb, ltb, length, Option, Some, None, Result, Ok, Err}
+use Rattle.numerals.specs.declared.NumbersError.{NumbersError}
+use Rattle.numerals.specs.declared.NumbersError.TheVariants.{NotANumber, TooMany}
 use Rattle.numerals.specs.Decimal.{decimal_of}
 
 -- what stands between numbers: tab, line ends, blank, comma
@@ -33,8 +32,8 @@ pieces_of text = pieces 0 [] text
 
 -- the numbers of the pieces before the first that is none
 unfoldable pub then : Option ℕ → List ℕ → List ℕ
-then none l = []
-then (some v) l = v ∷ l
+then None l = []
+then (Some v) l = v ∷ l
 
 unfoldable pub numbers_of : List Piece → List ℕ
 numbers_of [] = []
@@ -47,12 +46,12 @@ laid_over (v ∷ l) [] = []
 laid_over (v ∷ l) (o ∷ out) = v ∷ laid_over l out
 
 -- how reading goes on after a piece: it is none, there is no room for it, or its number is taken
-unfoldable pub goes_on : Option ℕ → ℕ → Bool → Parsed → Parsed
-goes_on none place room r = Stopped place
-goes_on (some v) place true r = r
-goes_on (some v) place false r = TooMany
+unfoldable pub goes_on : Option ℕ → ℕ → Bool → Result ℕ NumbersError → Result ℕ NumbersError
+goes_on None place room r = Err (NotANumber place)
+goes_on (Some v) place true r = r
+goes_on (Some v) place false r = Err TooMany
 
 -- how reading ends, where n numbers are read
-unfoldable pub end_of : ℕ → ℕ → List Piece → Parsed
-end_of room n [] = Read n
+unfoldable pub end_of : ℕ → ℕ → List Piece → Result ℕ NumbersError
+end_of room n [] = Ok n
 end_of room n (p ∷ ps) = goes_on (decimal_of p.bytes) p.place (ltb n room) (end_of room (suc n) ps)

@@ -1,78 +1,48 @@
 // Numbers read from text.
 #![tactic(auto)]
 
-ghost use Rattle.std.specs.Prelude.{◌≡◌, [], ◌∷◌, ◌+◌, ◌≤◌, length, drop};
-ghost use Rattle.numerals.specs.Decimal.{value_from, in_word, decimal_of, numeral_of};
+ghost use Rattle.std.specs.Prelude.{◌≡◌, [], ◌∷◌, ◌+◌, ◌≤◌, length, drop, IfOk};
+ghost use Rattle.numerals.specs.Decimal.{value_from, in_word, decimal_of};
 ghost use Rattle.numerals.specs.Pieces.{pieces_of, numbers_of, laid_over, end_of, run_of};
 ghost use Rattle.numerals.specs.Pieces.{between as Pieces·between};
 
-#[derive(Clone, Copy)]
-pub enum Numeral {
-    Number(u64),
-    NotANumber,
-}
-
-#[derive(Clone, Copy)]
-pub enum Parsed {
-    // How many there are.
-    Read(usize),
-    // Where the first that is no number begins.
-    Stopped(usize),
+#[derive(Clone, Copy, PartialEq, Eq)]
+pub enum NumbersError {
+    // Where the first piece that is no number begins.
+    NotANumber(usize),
     TooMany,
 }
 
-const LAST: u64 = 18446744073709551615;
-
-const LAST_TENTH: u64 = 1844674407370955161;
-
-fn wide(b: u8) -> u64
-    ensures { result ≡ b }
-{
-    b as u64
-}
-
 // The value v with one more digit after it.
-fn with_digit(v: u64, b: u8) -> Numeral
-    ensures { result ≡ numeral_of (in_word (value_from v (b ∷ []))) }
+fn with_digit(v: u64, b: u8) -> Option<u64>
+    ensures { result ≡ in_word (value_from v (b ∷ [])) }
 {
-    if b < 48 {
-        return Numeral::NotANumber;
+    if !b.is_ascii_digit() {
+        return None;
     }
-    if 57 < b {
-        return Numeral::NotANumber;
-    }
-    if LAST_TENTH < v {
-        return Numeral::NotANumber;
-    }
-    let d = wide(b) - 48;
-    if LAST - d < v * 10 {
-        return Numeral::NotANumber;
-    }
-    Numeral::Number(v * 10 + d)
+    v.checked_mul(10)?.checked_add(u64::from(b - b'0'))
 }
 
-pub fn parse(text: &[u8]) -> Numeral
-    ensures { result ≡ numeral_of (decimal_of text.now) }
+// The number that digits alone say. Kept beside std's `parse`, which takes a text where this takes any bytes, and lets a '+'
+// stand before the digits.
+pub fn parse(text: &[u8]) -> Option<u64>
+    ensures { result ≡ decimal_of text.now }
 {
-    if text.len() == 0 {
-        return Numeral::NotANumber;
+    if text.is_empty() {
+        return None;
     }
     let mut v: u64 = 0;
-    let mut i = 0;
-    while i < text.len() {
-        let Numeral::Number(n) = with_digit(v, text[i]) else {
-            return Numeral::NotANumber;
-        };
-        v = n;
-        i += 1;
+    for b in text {
+        v = with_digit(v, *b)?;
     }
-    Numeral::Number(v)
+    Some(v)
 }
 
+#[tactic(auto, unfolding(crate::specs::Pieces::between))]
 fn between(b: u8) -> bool
     ensures { result ≡ Pieces·between b }
 {
-    (b == 9) | (b == 10) | (b == 13) | (b == 32) | (b == 44)
+    matches!(b, b'\t' | b'\n' | b'\r' | b' ' | b',')
 }
 
 // Where the piece that goes on at `at` ends.
@@ -80,37 +50,37 @@ fn piece_end(text: &[u8], at: usize) -> usize
     requires { at ≤ length text.now }
     ensures { (result ≤ length text.now) × (result ≡ at + length (run_of (drop at text.now))) }
 {
-    let mut e = at;
-    while e < text.len() {
+    for e in at..text.len() {
         if between(text[e]) {
             return e;
         }
-        e += 1;
     }
-    e
+    text.len()
 }
 
-// The numbers of a text, with blanks, commas, tabs and line ends between them.
-pub fn numbers(text: &[u8], out: &mut [u64]) -> Parsed
-    ensures { (result ≡ end_of (length out.old) 0 (pieces_of text.now)) × (out.new ≡ laid_over (numbers_of (pieces_of text.now)) out.old) }
+// How many numbers a text has, with blanks, commas, tabs and line ends between them; they are laid at the start of `out`.
+pub fn numbers(text: &[u8], out: &mut [u64]) -> Result<usize, NumbersError>
+    ensures { (result ≡ end_of (length out.old) 0 (pieces_of text.now)) × (out.new ≡ laid_over (numbers_of (pieces_of text.now)) out.old) ×
+        IfOk result (λ n. n ≤ length out.old) }
 {
     let mut at = 0;
     let mut n = 0;
+    // Kept: a turn goes on by one byte or by one piece, whose place an error tells.
     while at < text.len() {
         if between(text[at]) {
             at += 1;
         } else {
             let e = piece_end(text, at);
-            let Numeral::Number(v) = parse(&text[at..e]) else {
-                return Parsed::Stopped(at);
+            let Some(v) = parse(&text[at..e]) else {
+                return Err(NumbersError::NotANumber(at));
             };
             if out.len() <= n {
-                return Parsed::TooMany;
+                return Err(NumbersError::TooMany);
             }
             out[n] = v;
             n += 1;
             at = e;
         }
     }
-    Parsed::Read(n)
+    Ok(n)
 }

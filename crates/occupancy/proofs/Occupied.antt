@@ -1,8 +1,9 @@
 -- What a committee, a machine and a cohort are asked, as the code has it at a row.
-use Prim.Native.Nat.{ℕ, ◌≤◌, ◌<◌}
+use Prim.Native.Nat.{ℕ, ◌<◌}
 use mathlib.Core.Path.{◌≡◌, refl, sym, ◌∙◌}
 use mathlib.Core.Bool.{Bool, true, false, ◌||◌}
-use lib.ListN.{get_or}
+use mathlib.Core.Option.{none}
+use lib.ListN.{length, get_or}
 use Rattle.types.specs.Numbers.{Shard, Id}
 use Rattle.types.specs.Places.{is_seated_on, observes}
 use Rattle.types.specs.declared.ShardId.{ShardId}
@@ -10,8 +11,8 @@ use Rattle.types.specs.declared.Epoch.{Epoch}
 use Rattle.types.specs.declared.Place.{Place}
 use Rattle.types.specs.declared.Place.TheVariants.{Pooled, Seated, Observing, Short, Other}
 use Rattle.rules.specs.Lists.{◌and◌, ◌or◌, every, any, has}
-use Rattle.rules.specs.Table.{Entry, stands, keys_of}
-use Rattle.rules.specs.Board.{split, merge, Reshape, Board, most_committees, most_reshapes}
+use Rattle.rules.specs.Table.{Entry, at, stands, keys_of}
+use Rattle.rules.specs.Board.{split, merge, Reshape, Board}
 use Rattle.rules.specs.WellFormed.{well_formed}
 use Rattle.rules.specs.Moves.{says, members_of, is_kind}
 use Rattle.rules.specs.SeatCheck.{has_cohort_seat, is_listed}
@@ -20,7 +21,6 @@ use Rattle.tables.proofs.Bools.{or_is}
 use Rattle.tables.proofs.Keys.{at_is}
 use Rattle.board.specs.Held.{no_committee, no_reshape}
 use Rattle.board.proofs.Keyed.{committees_rise, reshapes_rise}
-use Rattle.rows.specs.Found.{Found}
 use Rattle.rows.proofs.Asked.{holds_none}
 use Rattle.moves.proofs.Exiting.{split_unless}
 use Rattle.occupancy.specs.Rows.{is_here, cohort_watches}
@@ -37,29 +37,29 @@ module _ (b : Board) (x y : Id) (p : Place) (said : (f : Place → Bool) → f S
 
 -- ---- a member, asked at the committee's row
 
-module _ (s : Shard) (b : Board) (ok : well_formed b ≡ true) (j : ℕ) (f : Found most_committees s no_committee b.committees j) where
-  pub no_committee_lem : (x : Id) → most_committees ≤ j → false ≡ has x (members_of s b)
+module _ (s : Shard) (b : Board) (ok : well_formed b ≡ true) where
+  pub no_committee_lem : (x : Id) → at s b.committees ≡ none → false ≡ has x (members_of s b)
   unfolding members_of has any
-  no_committee_lem x l = rw (members_of, f.missing l)
+  no_committee_lem x m = rw (members_of, m)
 
-  pub members_there : j < most_committees → (get_or b.committees j no_committee).val ≡ members_of s b
+  pub members_there : (j : ℕ) → (j < length b.committees) × ((get_or b.committees j no_committee).key ≡ s) → (get_or b.committees j no_committee).val ≡ members_of s b
   unfolding members_of
-  members_there l = rw (members_of, at_is b.committees (committees_rise b ok) s j no_committee (f.inside l) (f.named l))
+  members_there j f = rw (members_of, at_is b.committees (committees_rise b ok) s j no_committee f.0 f.1)
 
 -- ---- a seat, asked at the reshape's row
 
-module _ (s : Shard) (x : Id) (b : Board) (ok : well_formed b ≡ true) (i : ℕ) (f : Found most_reshapes s no_reshape b.reshapes i) where
-  pub no_reshape_lem : most_reshapes ≤ i → false ≡ has_cohort_seat s x b
+module _ (s : Shard) (x : Id) (b : Board) (ok : well_formed b ≡ true) where
+  pub no_reshape_lem : at s b.reshapes ≡ none → false ≡ has_cohort_seat s x b
   unfolding has_cohort_seat
-  no_reshape_lem l = sym (holds_none s _ b.reshapes (f.missing l))
+  no_reshape_lem m = sym (holds_none s _ b.reshapes m)
 
-  module _ (l : i < most_reshapes) where
+  module _ (i : ℕ) (f : (i < length b.reshapes) × ((get_or b.reshapes i no_reshape).key ≡ s)) where
     abbrev here : Reshape
     here = (get_or b.reshapes i no_reshape).val
 
     asked : has_cohort_seat s x b ≡ (is_kind split here and stands x here.seats)
     unfolding has_cohort_seat
-    asked = holds_at_lem s _ b.reshapes _ (at_is b.reshapes (reshapes_rise b ok) s i no_reshape (f.inside l) (f.named l))
+    asked = holds_at_lem s _ b.reshapes _ (at_is b.reshapes (reshapes_rise b ok) s i no_reshape f.0 f.1)
 
     pub merge_there : is_kind merge here ≡ true → false ≡ has_cohort_seat s x b
     unfolding ◌and◌

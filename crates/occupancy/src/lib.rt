@@ -16,6 +16,8 @@ use board::{committees, machines};
 use reshapes::{fields, seats};
 use types::{Machine, Place, ShardId, ValidatorId};
 
+// Loops that stop at the first row that fails: `all` is no plainer, and its closure would need clauses over the board.
+
 // ---- members
 
 // Each member of the committee at j is seated on its shard or observes it.
@@ -25,13 +27,11 @@ fn committee_is_there(board: &[u64], j: usize) -> bool
 {
     let shard = committees::shard_at(board, j);
     let n = steps::rows_within(committees::member_count(board, j), MOST_MEMBERS);
-    let mut k: usize = 0;
-    while k < n {
+    for k in 0..n {
         let p = rows::place_of(board, committees::member_at(board, j, k));
         if !(p.is_seated_on(shard) | p.observes_shard(shard)) {
             return false;
         }
-        k += 1;
     }
     true
 }
@@ -41,12 +41,10 @@ pub fn members_are_there(board: &[u64]) -> bool
     ensures { (b : Board) → Holds board.now b → well_formed b ≡ true → result ≡ members_are_there b }
 {
     let n = steps::rows_within(committees::count(board), MOST_COMMITTEES);
-    let mut j: usize = 0;
-    while j < n {
+    for j in 0..n {
         if !committee_is_there(board, j) {
             return false;
         }
-        j += 1;
     }
     true
 }
@@ -57,25 +55,23 @@ pub fn is_member(board: &[u64], shard: ShardId, id: ValidatorId) -> bool
     requires { length board.now ≡ board_size }
     ensures { (b : Board) → Holds board.now b → well_formed b ≡ true → result ≡ has id.0 (members_of shard.0 b) }
 {
-    let j = rows::committee_row(board, shard);
-    if MOST_COMMITTEES <= j {
-        return false;
+    match rows::find_committee(board, shard) {
+        Some(j) => committees::has_member(board, j, id),
+        None => false,
     }
-    committees::has_member(board, j, id)
 }
 
 pub fn has_cohort_seat(board: &[u64], target: ShardId, id: ValidatorId) -> bool
     requires { length board.now ≡ board_size }
     ensures { (b : Board) → Holds board.now b → well_formed b ≡ true → result ≡ has_cohort_seat target.0 id.0 b }
 {
-    let i = rows::reshape_row(board, target);
-    if MOST_RESHAPES <= i {
+    let Some(i) = rows::find_reshape(board, target) else {
         return false;
-    }
+    };
     if fields::is_merge(board, i) {
         return false;
     }
-    rows::seat_row(board, i, id) < MOST_SEATS
+    rows::find_seat(board, i, id).is_some()
 }
 
 // A machine on a shard is a member there; one that observes it has a seat in a split there too.
@@ -83,16 +79,12 @@ pub fn is_listed(board: &[u64], m: Machine) -> bool
     requires { length board.now ≡ board_size }
     ensures { (b : Board) → Holds board.now b → well_formed b ≡ true → result ≡ is_listed b m.id.0 m.place }
 {
-    let id = m.id;
-    let p = m.place;
-    match p {
-        Place::Pooled => true,
-        Place::Seated { shard, .. } => is_member(board, shard, id),
+    match m.place {
+        Place::Seated { shard, .. } => is_member(board, shard, m.id),
         Place::Observing { shard, .. } => {
-            is_member(board, shard, id) & has_cohort_seat(board, shard, id)
+            is_member(board, shard, m.id) & has_cohort_seat(board, shard, m.id)
         }
-        Place::Short => true,
-        Place::Other(_) => true,
+        Place::Pooled | Place::Short | Place::Other(_) => true,
     }
 }
 
@@ -101,12 +93,10 @@ pub fn machines_are_listed(board: &[u64]) -> bool
     ensures { (b : Board) → Holds board.now b → well_formed b ≡ true → result ≡ machines_are_listed b }
 {
     let n = steps::rows_within(machines::count(board), MOST_MACHINES);
-    let mut i: usize = 0;
-    while i < n {
+    for i in 0..n {
         if !is_listed(board, machines::at(board, i)) {
             return false;
         }
-        i += 1;
     }
     true
 }
@@ -123,14 +113,12 @@ fn cohort_watches(board: &[u64], i: usize) -> bool
     }
     let target = fields::target_at(board, i);
     let n = steps::rows_within(seats::count(board, i), MOST_SEATS);
-    let mut k: usize = 0;
-    while k < n {
+    for k in 0..n {
         let seat = seats::at(board, i, k);
         let p = rows::place_of(board, seat.id);
         if !p.observes_shard(target) {
             return false;
         }
-        k += 1;
     }
     true
 }
@@ -140,12 +128,10 @@ pub fn cohorts_watch(board: &[u64]) -> bool
     ensures { (b : Board) → Holds board.now b → well_formed b ≡ true → result ≡ cohorts_watch b }
 {
     let n = steps::rows_within(fields::count(board), MOST_RESHAPES);
-    let mut i: usize = 0;
-    while i < n {
+    for i in 0..n {
         if !cohort_watches(board, i) {
             return false;
         }
-        i += 1;
     }
     true
 }

@@ -20,9 +20,10 @@ use Rattle.tables.proofs.Tables.{pad_is, rows_length, table_length}
 use Rattle.board.specs.Layout.{machine_width, committee_width, boundary_width, rotation_width, seat_width, seats_at, left_at, right_at, reshape_width, machines_at, committees_at, bounds_at, rotations_at, reshapes_at, board_size, committee_row, seat_table, reshape_head, reshape_row, settings_table, machine_table, committee_table, boundary_table, rotation_table, reshape_table, encode}
 use Rattle.board.specs.Held.{roomy_committee, roomy_reshape, Fits}
 use Rattle.board.proofs.Widths.{machine_wide, id_wide, committee_wide, boundary_wide, rotation_wide, seat_wide, head_wide, reshape_parts_lem, reshape_wide, settings_wide}
-use Rattle.packing.specs.declared.Nested.{Nested}
-use Rattle.packing.specs.declared.Nested.TheVariants.{Committees, Reshapes}
-use Rattle.packing.specs.Packed.{between, count_of, flat, committee, reshape, width_of, row_of, rows_of, nested, from_bounds, packed}
+use Rattle.row_tests.specs.declared.RowKind.{RowKind}
+use Rattle.row_tests.specs.declared.RowKind.TheVariants.{Committees, Reshapes}
+use Rattle.row_tests.specs.Rows.{width_of}
+use Rattle.packing.specs.Packed.{between, count_of, flat, committee, reshape, row_of, rows_of, nested, from_bounds, packed}
 
 part_last : (a e : ℕ) (t A : List ℕ) → drop a t ≡ A → length A ≡ e - a → between a e t ≡ A
 part_last a e t A p l = ap (take (e - a)) p ∙ take_all (e - a) A (omega arith)
@@ -42,7 +43,7 @@ module _ {A : Type 0} (f : A → List ℕ) (w : ℕ) (fw : (x : A) → length (f
       rw (counted, e) (ap (λ (l : List ℕ). length xs ∷ l) (ap (take (length xs * w)) padded ∙ take_at (rows_words f xs) _ (length xs * w) (rows_length f w fw xs)))
 
 -- rows with lists, each by its own law
-module _ {A : Type 0} (k : Nested) (f g : A → List ℕ) (ok : A → Bool) (fw : (x : A) → length (f x) ≡ width_of k) (packs : (x : A) → ok x ≡ true → row_of k (f x) ≡ g x) where
+module _ {A : Type 0} (k : RowKind) (f g : A → List ℕ) (ok : A → Bool) (fw : (x : A) → length (f x) ≡ width_of k) (packs : (x : A) → ok x ≡ true → row_of k (f x) ≡ g x) where
   rows_pack : (xs : List A) (z : List ℕ) → every ok xs ≡ true → rows_of k (length xs) (rows_words f xs ++ z) ≡ rows_words g xs
   unfolding rows_of rows_words
   rows_pack [] z h = refl
@@ -62,7 +63,7 @@ unfolding settings_table settings_words pad
 settings_pack s z = refl
 
 pub committee_packs : (e : Entry (List Id)) → roomy_committee e ≡ true → row_of Committees (committee_row e) ≡ committee_words e
-unfolding row_of committee committee_row committee_words roomy_committee
+unfolding committee committee_row committee_words roomy_committee
 committee_packs e h =
     let l : length (id_table most_members e.val) ≡ 97 = table_length id_words 1 most_members e.val in
     rw (part_last 1 98 (e.key ∷ id_table most_members e.val) (id_table most_members e.val) refl l, flat_packs id_words 1 id_wide most_members e.val (leb-true _ _ h))
@@ -75,7 +76,7 @@ four : {a b c d x y z w : List ℕ} → a ≡ x → b ≡ y → c ≡ z → d �
 four p q r s = rw (p, q, r, s)
 
 pub reshape_packs : (e : Entry Reshape) → roomy_reshape e ≡ true → row_of Reshapes (reshape_row e) ≡ reshape_words e
-unfolding row_of reshape roomy_reshape
+unfolding reshape roomy_reshape
 reshape_packs e h =
     let q = all_parts _ h in
     let H = reshape_head e in

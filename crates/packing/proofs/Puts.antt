@@ -6,8 +6,8 @@ use lib.ListN.{length, take, drop}
 use Rattle.rules.specs.Board.{most_members, most_seats, most_half}
 use Rattle.board.specs.Layout.{members_at, committee_width, seat_width, seats_at, left_at, right_at, reshape_width}
 use Rattle.bytes_words.specs.Laid.{laid}
-use Rattle.packing.specs.declared.Nested.{Nested}
-use Rattle.packing.specs.declared.Nested.TheVariants.{Committees, Reshapes}
+use Rattle.row_tests.specs.declared.RowKind.{RowKind}
+use Rattle.row_tests.specs.declared.RowKind.TheVariants.{Machines, Committees, Boundaries, Rotations, Reshapes}
 use Rattle.packing.specs.Packed.{between, count_of, flat, committee, reshape, row_of, rows_of, nested}
 use Rattle.packing.specs.Put.{Put}
 use Rattle.packing.proofs.Sizes.{flat_length}
@@ -36,7 +36,7 @@ pub reshape_start : (t out : List ℕ) (at : ℕ) → at + length (reshape t) * 
 unfolding reshape
 reshape_start t out at h = start _ _ at out refl h
 
-pub nested_start : (k : Nested) (cap : ℕ) (t out : List ℕ) (at : ℕ) → at + length (nested k cap t) * 8 ≤ length out
+pub nested_start : (k : RowKind) (cap : ℕ) (t out : List ℕ) (at : ℕ) → at + length (nested k cap t) * 8 ≤ length out
     → Left (nested k cap t) at out (take 1 t ++ rows_of k (count_of cap t) (drop 1 t)) at out
 unfolding nested
 nested_start k cap t out at h = start _ _ at out refl h
@@ -47,10 +47,16 @@ put_as {ws} {vs} {out} {o} {at} {r} e p = subst (λ (l : List ℕ). Put l at out
 pub room_as : {ws vs : List ℕ} (out : List ℕ) (at : ℕ) → ws ≡ vs → at + length ws * 8 ≤ length out → at + length vs * 8 ≤ length out
 room_as {ws} {vs} out at e p = subst (λ (l : List ℕ). at + length l * 8 ≤ length out) e p
 
-pub row_committee : (k : Nested) (t : List ℕ) → k ≡ Committees → row_of k t ≡ committee t
-unfolding row_of
-row_committee k t e = ap (λ (j : Nested). row_of j t) e
+pub row_committee : (k : RowKind) (t : List ℕ) → k ≡ Committees → row_of k t ≡ committee t
+row_committee k t e = ap (λ (j : RowKind). row_of j t) e
 
-pub row_reshape : (k : Nested) (t : List ℕ) → k ≡ Reshapes → row_of k t ≡ reshape t
-unfolding row_of
-row_reshape k t e = ap (λ (j : Nested). row_of j t) e
+pub row_reshape : (k : RowKind) (t : List ℕ) → k ≡ Reshapes → row_of k t ≡ reshape t
+row_reshape k t e = ap (λ (j : RowKind). row_of j t) e
+
+-- a row without lists is as it was
+pub row_plain : (k : RowKind) (t : List ℕ) → (k ≡ Committees → ⊥) → (k ≡ Reshapes → ⊥) → t ≡ row_of k t
+row_plain Machines t c r = refl
+row_plain Committees t c r = absurd (c refl)
+row_plain Boundaries t c r = refl
+row_plain Rotations t c r = refl
+row_plain Reshapes t c r = absurd (r refl)

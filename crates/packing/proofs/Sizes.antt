@@ -1,18 +1,14 @@
 -- How many words are packed.
-use Prim.Native.Nat.{ℕ, ◌+◌, ◌*◌, ◌≤◌, ◌<◌}
+use Prim.Native.Nat.{ℕ, ◌+◌, ◌*◌, ◌≤◌}
 use mathlib.Core.Path.{◌≡◌, sym}
 use mathlib.Core.List.{List}
 use native.Mathlib.Omega.{arith}
-use native.Mathlib.Nat.{mul-le-mul_right, min-le_right, min-eq_left, min-eq_right}
+use native.Mathlib.Nat.{mul-le-mul_right, min-le_right, min-eq_left}
 use lib.ListN.{length, get_or, take, length-append}
 use lib.Seq.{length-take-le}
 use Rattle.rules.specs.Board.{most_members, most_seats, most_half}
 use Rattle.board.specs.Layout.{members_at, committee_width, seat_width, seats_at, left_at, right_at, reshape_width}
 use Rattle.packing.specs.Packed.{between, count_of, flat, committee, reshape}
-
-pub count_many : (cap : ℕ) (t : List ℕ) → cap < get_or t 0 0 → cap ≡ count_of cap t
-unfolding count_of
-count_many cap t h = let l : cap ≤ get_or t 0 0 = omega arith in sym (min-eq_right l)
 
 pub count_few : (cap : ℕ) (t : List ℕ) → get_or t 0 0 ≤ cap → get_or t 0 0 ≡ count_of cap t
 unfolding count_of

@@ -11,7 +11,7 @@ use mir.Facts.{Fits-le, Fits-lit}
 use Rattle.rules.specs.Board.{most_machines, most_committees, most_bounds, most_rotations, most_reshapes}
 use Rattle.shifts.proofs.Parts.{between_length}
 use Rattle.board.specs.Layout.{machine_width, committee_width, boundary_width, rotation_width, reshape_width, machines_at, committees_at, bounds_at, rotations_at, reshapes_at, board_size}
-use Rattle.packing.specs.declared.Nested.TheVariants.{Committees, Reshapes}
+use Rattle.row_tests.specs.declared.RowKind.TheVariants.{Committees, Reshapes}
 use Rattle.packing.specs.Packed.{between, flat, nested, from_bounds, packed}
 use Rattle.packing.proofs.Sizes.{flat_most}
 use Rattle.packing.proofs.Lefts.{Left, start}

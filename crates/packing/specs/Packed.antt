@@ -2,8 +2,9 @@
 use Rattle.std.specs.Prelude.{ℕ, zero, suc, ◌+◌, ◌-◌, ◌*◌, min, List, [], ◌++◌, get_or, take, drop}
 use Rattle.rules.specs.Board.{most_machines, most_committees, most_members, most_bounds, most_rotations, most_reshapes, most_seats, most_half}
 use Rattle.board.specs.Layout.{machine_width, members_at, committee_width, boundary_width, rotation_width, seat_width, seats_at, left_at, right_at, reshape_width, machines_at, committees_at, bounds_at, rotations_at, reshapes_at, board_size}
-use Rattle.packing.specs.declared.Nested.{Nested}
-use Rattle.packing.specs.declared.Nested.TheVariants.{Committees, Reshapes}
+use Rattle.row_tests.specs.declared.RowKind.{RowKind}
+use Rattle.row_tests.specs.declared.RowKind.TheVariants.{Machines, Committees, Boundaries, Rotations, Reshapes}
+use Rattle.row_tests.specs.Rows.{width_of}
 
 -- the words from a to e
 abbrev pub between : ℕ → ℕ → List ℕ → List ℕ
@@ -17,7 +18,7 @@ count_of cap t = min (get_or t 0 0) cap
 unfoldable pub flat : ℕ → ℕ → List ℕ → List ℕ
 flat w cap t = take (1 + count_of cap t * w) t
 
--- rows with lists in them
+-- the words of a row with lists in it
 unfoldable pub committee : List ℕ → List ℕ
 committee t = take members_at t ++ flat 1 most_members (between members_at committee_width t)
 
@@ -26,20 +27,20 @@ reshape t =
     take seats_at t
     ++ (flat seat_width most_seats (between seats_at left_at t) ++ (flat 1 most_half (between left_at right_at t) ++ flat 1 most_half (between right_at reshape_width t)))
 
-abbrev pub width_of : Nested → ℕ
-width_of Committees = committee_width
-width_of Reshapes = reshape_width
-
-unfoldable pub row_of : Nested → List ℕ → List ℕ
+-- a row of any kind: one without lists is as it was
+abbrev pub row_of : RowKind → List ℕ → List ℕ
+row_of Machines t = t
 row_of Committees t = committee t
+row_of Boundaries t = t
+row_of Rotations t = t
 row_of Reshapes t = reshape t
 
-unfoldable pub rows_of : Nested → ℕ → List ℕ → List ℕ
+unfoldable pub rows_of : RowKind → ℕ → List ℕ → List ℕ
 rows_of k zero t = []
 rows_of k (suc n) t = row_of k (take (width_of k) t) ++ rows_of k n (drop (width_of k) t)
 
 -- a table of such rows
-unfoldable pub nested : Nested → ℕ → List ℕ → List ℕ
+unfoldable pub nested : RowKind → ℕ → List ℕ → List ℕ
 nested k cap t = take 1 t ++ rows_of k (count_of cap t) (drop 1 t)
 
 -- the tables from the boundaries on

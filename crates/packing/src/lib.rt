@@ -3,7 +3,8 @@
 
 ghost use Rattle.std.specs.Prelude.{◌≡◌, ◌+◌, ◌-◌, ◌*◌, ◌≤◌, length};
 ghost use Rattle.board.specs.Layout.{committee_width, reshape_width, bounds_at, board_size};
-ghost use Rattle.packing.specs.Packed.{count_of, flat, committee, reshape, width_of, row_of, nested, from_bounds, packed};
+ghost use Rattle.row_tests.specs.Rows.{width_of};
+ghost use Rattle.packing.specs.Packed.{count_of, flat, committee, reshape, row_of, nested, from_bounds, packed};
 ghost use Rattle.packing.specs.Put.{Put};
 
 use board::layout::{
@@ -13,6 +14,7 @@ use board::layout::{
     ROTATION_WIDTH, ROTATIONS_AT, SEAT_WIDTH, SEATS_AT, SETTINGS_END,
 };
 use bytes_words::put_words;
+use row_tests::RowKind;
 
 // ---- A table of rows without lists
 
@@ -21,11 +23,7 @@ fn count(cap: usize, t: &[u64]) -> usize
     requires { 1 ≤ length t.now }
     ensures { result ≡ count_of cap t.now }
 {
-    let n = t[0] as usize;
-    if cap < n {
-        return cap;
-    }
-    n
+    (t[0] as usize).min(cap)
 }
 
 fn flat_size(w: usize, cap: usize, t: &[u64]) -> usize
@@ -80,76 +78,67 @@ fn put_reshape(t: &[u64], out: &mut [u8], at: usize) -> usize
     put_flat(1, MOST_HALF, &t[RIGHT_AT..RESHAPE_WIDTH], out, r)
 }
 
-#[derive(Clone, Copy)]
-pub enum Nested {
-    Committees,
-    Reshapes,
-}
-
-impl Nested {
-    fn width(self) -> usize
-        ensures { result ≡ width_of self }
-    {
-        match self {
-            Nested::Committees => COMMITTEE_WIDTH,
-            Nested::Reshapes => RESHAPE_WIDTH,
-        }
+pub fn width(k: RowKind) -> usize
+    ensures { result ≡ width_of k }
+{
+    match k {
+        RowKind::Machines => MACHINE_WIDTH,
+        RowKind::Committees => COMMITTEE_WIDTH,
+        RowKind::Boundaries => BOUNDARY_WIDTH,
+        RowKind::Rotations => ROTATION_WIDTH,
+        RowKind::Reshapes => RESHAPE_WIDTH,
     }
 }
 
-fn row_size(k: Nested, t: &[u64]) -> usize
+fn row_size(k: RowKind, t: &[u64]) -> usize
     requires { length t.now ≡ width_of k }
     ensures { result ≡ length (row_of k t.now) }
 {
     match k {
-        Nested::Committees => committee_size(t),
-        Nested::Reshapes => reshape_size(t),
+        RowKind::Committees => committee_size(t),
+        RowKind::Reshapes => reshape_size(t),
+        _ => t.len(),
     }
 }
 
-fn put_row(k: Nested, t: &[u64], out: &mut [u8], at: usize) -> usize
+fn put_row(k: RowKind, t: &[u64], out: &mut [u8], at: usize) -> usize
     requires { (length t.now ≡ width_of k) × (at + length (row_of k t.now) * 8 ≤ length out.old) }
     ensures { Put (row_of k t.now) at out.old out.new result }
 {
     match k {
-        Nested::Committees => put_committee(t, out, at),
-        Nested::Reshapes => put_reshape(t, out, at),
+        RowKind::Committees => put_committee(t, out, at),
+        RowKind::Reshapes => put_reshape(t, out, at),
+        _ => put_words(t, out, at),
     }
 }
 
 // No row grows by being packed, so the sum stays below the table's length.
-fn rows_size(k: Nested, cap: usize, t: &[u64]) -> usize
+fn rows_size(k: RowKind, cap: usize, t: &[u64]) -> usize
     requires { length t.now ≡ 1 + cap * width_of k }
     ensures { (result ≡ length (nested k cap t.now)) × (result ≤ length t.now) }
 {
-    let w = k.width();
-    let mut n = count(cap, t);
-    let mut a: usize = 1;
-    let mut s: usize = 1;
-    while 0 < n {
-        let e = a + w;
-        s += row_size(k, &t[a..e]);
-        a = e;
-        n -= 1;
+    let w = width(k);
+    let n = count(cap, t);
+    let mut size: usize = 1;
+    for i in 0..n {
+        let row = 1 + i * w;
+        size += row_size(k, &t[row..row + w]);
     }
-    s
+    size
 }
 
-fn put_rows(k: Nested, cap: usize, t: &[u64], out: &mut [u8], at: usize) -> usize
+fn put_rows(k: RowKind, cap: usize, t: &[u64], out: &mut [u8], at: usize) -> usize
     requires { (length t.now ≡ 1 + cap * width_of k) × (at + length (nested k cap t.now) * 8 ≤ length out.old) }
     ensures { Put (nested k cap t.now) at out.old out.new result }
 {
-    let w = k.width();
-    let mut n = count(cap, t);
-    let mut p = put_words(&t[0..1], out, at);
-    let mut a: usize = 1;
-    while 0 < n {
-        let e = a + w;
-        p = put_row(k, &t[a..e], out, p);
-        a = e;
-        n -= 1;
+    let w = width(k);
+    let n = count(cap, t);
+    let mut next = put_words(&t[0..1], out, at);
+    for i in 0..n {
+        let row = 1 + i * w;
+        next = put_row(k, &t[row..row + w], out, next);
     }
-    p
+    next
 }
 
 // ---- The board
@@ -165,7 +154,11 @@ fn size_from_bounds(t: &[u64]) -> usize
         MOST_ROTATIONS,
         &t[ROTATIONS_AT..RESHAPES_AT],
     );
-    let r = rows_size(Nested::Reshapes, MOST_RESHAPES, &t[RESHAPES_AT..BOARD_SIZE]);
+    let r = rows_size(
+        RowKind::Reshapes,
+        MOST_RESHAPES,
+        &t[RESHAPES_AT..BOARD_SIZE],
+    );
     b + o + r
 }
 
@@ -175,7 +168,7 @@ pub fn packed_size(t: &[u64]) -> usize
 {
     let m = flat_size(MACHINE_WIDTH, MOST_MACHINES, &t[MACHINES_AT..COMMITTEES_AT]);
     let c = rows_size(
-        Nested::Committees,
+        RowKind::Committees,
         MOST_COMMITTEES,
         &t[COMMITTEES_AT..BOUNDS_AT],
     );
@@ -202,8 +195,13 @@ fn put_from_bounds(t: &[u64], out: &mut [u8], at: usize) -> usize
         out,
         b,
     );
-    let reshapes = Nested::Reshapes;
-    put_rows(reshapes, MOST_RESHAPES, &t[RESHAPES_AT..BOARD_SIZE], out, o)
+    put_rows(
+        RowKind::Reshapes,
+        MOST_RESHAPES,
+        &t[RESHAPES_AT..BOARD_SIZE],
+        out,
+        o,
+    )
 }
 
 pub fn put_board(t: &[u64], out: &mut [u8]) -> usize
@@ -219,7 +217,7 @@ pub fn put_board(t: &[u64], out: &mut [u8]) -> usize
         s,
     );
     let c = put_rows(
-        Nested::Committees,
+        RowKind::Committees,
         MOST_COMMITTEES,
         &t[COMMITTEES_AT..BOUNDS_AT],
         out,

@@ -20,16 +20,12 @@ use types::{ShardId, ValidatorId};
 pub fn share_party(p: Rotation, q: Rotation) -> bool
     ensures { result ≡ share_party (rotation_of p) (rotation_of q) }
 {
-    let here = p.shard;
-    let victim = p.victim;
-    let entrant = p.entrant;
-    let there = q.shard;
-    let leaving = q.victim;
-    let coming = q.entrant;
-    let has_victim = (leaving.0 == victim.0) | (coming.0 == victim.0);
-    let has_entrant = (leaving.0 == entrant.0) | (coming.0 == entrant.0);
-    (there.0 == here.0) & (has_victim | has_entrant)
+    let has_victim = (q.victim == p.victim) | (q.entrant == p.victim);
+    let has_entrant = (q.victim == p.entrant) | (q.entrant == p.entrant);
+    (q.shard == p.shard) & (has_victim | has_entrant)
 }
+
+// Loops that stop at the first row that fails: `all` is no plainer, and its closure would need clauses over the board.
 
 // No rotation after row i shares a party with the one given.
 fn is_apart(board: &[u64], i: usize, p: Rotation) -> bool
@@ -37,12 +33,10 @@ fn is_apart(board: &[u64], i: usize, p: Rotation) -> bool
     ensures { (b : Board) → Holds board.now b → result ≡ apart (rotation_of p) (drop (i + 1) b.rotations) }
 {
     let n = rotations::rows(board);
-    let mut k = i + 1;
-    while k < n {
+    for k in i + 1..n {
         if share_party(p, rotations::at(board, k)) {
             return false;
         }
-        k += 1;
     }
     true
 }
@@ -51,8 +45,7 @@ pub fn sits_on(board: &[u64], shard: ShardId, id: ValidatorId) -> bool
     requires { length board.now ≡ board_size }
     ensures { (b : Board) → Holds board.now b → well_formed b ≡ true → result ≡ says (is_seated_on shard.0) b id.0 }
 {
-    let p = rows::place_of(board, id);
-    p.is_seated_on(shard)
+    rows::place_of(board, id).is_seated_on(shard)
 }
 
 // The rotation at i: two parties, of no later rotation there, and both seated there.
@@ -62,11 +55,8 @@ fn parties_fit(board: &[u64], i: usize) -> bool
         result ≡ fits_before b (get_or b.rotations i no_rotation) (drop (i + 1) b.rotations) }
 {
     let r = rotations::at(board, i);
-    let shard = r.shard;
-    let victim = r.victim;
-    let entrant = r.entrant;
-    let differ = entrant.0 != victim.0;
-    let seated = sits_on(board, shard, victim) & sits_on(board, shard, entrant);
+    let differ = r.entrant != r.victim;
+    let seated = sits_on(board, r.shard, r.victim) & sits_on(board, r.shard, r.entrant);
     differ & (is_apart(board, i, r) & seated)
 }
 
@@ -75,12 +65,10 @@ pub fn rotations_fit(board: &[u64]) -> bool
     ensures { (b : Board) → Holds board.now b → well_formed b ≡ true → result ≡ rotations_fit b }
 {
     let n = rotations::rows(board);
-    let mut i: usize = 0;
-    while i < n {
+    for i in 0..n {
         if !parties_fit(board, i) {
             return false;
         }
-        i += 1;
     }
     true
 }

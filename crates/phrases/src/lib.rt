@@ -4,10 +4,11 @@
 ghost use Rattle.std.specs.Prelude.{◌++◌, if◌then◌else◌};
 ghost use Rattle.lines.specs.Says.{Puts};
 ghost use Rattle.lines.specs.Numeral.{numeral};
+ghost use Rattle.phrases.specs.Texts.{epoch_or};
 ghost use Rattle.phrases.specs.Places.{place_text, seated_text, member_text};
 
 use lines::{put_number, put_text};
-use types::Place;
+use types::{Epoch, Place};
 
 // A number after its name, right-aligned in a column.
 pub fn put_column(line: &mut [u8], at: usize, name: &[u8], width: usize, n: u64) -> usize
@@ -23,31 +24,27 @@ pub fn put_named(line: &mut [u8], at: usize, name: &[u8], n: u64) -> usize
     put_column(line, at, name, 0, n)
 }
 
-// What is said of a number that may be missing.
-pub fn put_column_or(
+// An epoch in a column, or what is said of a missing one.
+pub fn put_epoch_or(
     line: &mut [u8],
     at: usize,
-    there: bool,
     name: &[u8],
     width: usize,
-    n: u64,
+    epoch: Option<Epoch>,
     missing: &[u8],
 ) -> usize
-    ensures { Puts line.old at (if there then name.now ++ numeral width n else missing.now) line.new result }
+    ensures { Puts line.old at (epoch_or name.now width epoch missing.now) line.new result }
 {
-    if there {
-        return put_column(line, at, name, width, n);
+    match epoch {
+        Some(e) => put_column(line, at, name, width, e.0),
+        None => put_text(line, at, missing),
     }
-    put_text(line, at, missing)
 }
 
 pub fn put_either(line: &mut [u8], at: usize, test: bool, yes: &[u8], no: &[u8]) -> usize
     ensures { Puts line.old at (if test then yes.now else no.now) line.new result }
 {
-    if test {
-        return put_text(line, at, yes);
-    }
-    put_text(line, at, no)
+    put_text(line, at, if test { yes } else { no })
 }
 
 pub fn put_place(line: &mut [u8], at: usize, place: Place) -> usize
@@ -83,8 +80,7 @@ fn put_seated(line: &mut [u8], at: usize, ready: bool, stamp: u64, wait: u64) ->
         return put_column(line, at, b"seated    ready    stamp ", 10, stamp);
     }
     let a = put_column(line, at, b"seated    waiting  stamp ", 10, stamp);
-    let by = std::num::wrapping_add_u64(stamp, wait);
-    put_column(line, a, b"  deadline ", 10, by)
+    put_column(line, a, b"  deadline ", 10, stamp.wrapping_add(wait))
 }
 
 // The place of a member of a committee, with the deadline of one that waits; nothing of a machine that is elsewhere.
@@ -92,15 +88,14 @@ pub fn put_member(line: &mut [u8], at: usize, place: Place, wait: u64) -> usize
     ensures { Puts line.old at (member_text wait place) line.new result }
 {
     match place {
-        Place::Pooled => at,
         Place::Seated {
-            shard: _,
             ready,
             placed_at_epoch,
+            ..
         } => put_seated(line, at, ready, placed_at_epoch.0, wait),
         Place::Observing {
-            shard: _,
             placed_at_epoch,
+            ..
         } => put_column(
             line,
             at,
@@ -108,7 +103,6 @@ pub fn put_member(line: &mut [u8], at: usize, place: Place, wait: u64) -> usize
             10,
             placed_at_epoch.0,
         ),
-        Place::Short => at,
-        Place::Other(_) => at,
+        Place::Pooled | Place::Short | Place::Other(_) => at,
     }
 }

@@ -10,9 +10,10 @@ use Rattle.rules.specs.Board.{Board}
 use Rattle.rules.specs.Turns.{Turn, alone}
 use Rattle.board.specs.Held.{Holds}
 use Rattle.board.specs.Permitted.{outcome_of}
-use Rattle.pool.specs.declared.Turned as turned
-use Rattle.pool.specs.declared.Turned.TheVariants.{Done, Refused}
-use Rattle.pool.specs.Told.{TellsTurn, told_of}
+use Rattle.std.specs.Prelude.{Result, Ok, Err}
+use Rattle.types.specs.declared.Answer.{Answer}
+use Rattle.pool.specs.declared.Turn as step
+use Rattle.pool.specs.Told.{TurnTells, turn_told}
 
 module _ (draws after : List ℕ) (b : Board) (t : Turn) where
   -- as many draws are used as the reader passed
@@ -22,12 +23,12 @@ module _ (draws after : List ℕ) (b : Board) (t : Turn) where
   abbrev done : ℕ → ℕ → Outcome
   done n at = record { answer = answers.Done; handled = n; draws_used = at }
 
-  pub alone_told : (r : turned.Turned) → TellsTurn draws after b t r → told_of r ≡ outcome_of (alone draws b t)
+  pub turn_alone : (r : Result step.Turn Answer) → TurnTells draws after b t r → turn_told r ≡ outcome_of (alone draws b t)
   unfolding alone
-  alone_told (Done n left) f = rw f.turn (ap (done n) (used left.at f.read))
-  alone_told (Refused a) f = rw f.0
+  turn_alone (Ok r) f = rw f.turn (ap (done r.handled) (used r.left.at f.read))
+  turn_alone (Err a) f = rw f.0
 
-  pub alone_left : (r : turned.Turned) → TellsTurn draws after b t r → Holds after (alone draws b t).board
+  pub turn_leaves : (r : Result step.Turn Answer) → TurnTells draws after b t r → Holds after (alone draws b t).board
   unfolding alone
-  alone_left (Done n left) f = rw f.turn f.holds
-  alone_left (Refused a) f = rw f.0 f.1
+  turn_leaves (Ok r) f = rw f.turn f.holds
+  turn_leaves (Err a) f = rw f.0 f.1

@@ -1,11 +1,14 @@
 -- The settings and the sections, one after another to the end, are a board's snapshot; and such a snapshot is read so.
 use Prim.Native.Nat.{ℕ, ◌+◌, ◌%◌, ◌≤◌, ◌<◌}
-use mathlib.Core.Path.{◌≡◌, refl, ap, sym, ◌∙◌}
+use mathlib.Core.Path.{◌≡◌, refl, ap, sym, subst, ◌∙◌}
 use mathlib.Core.List.{List, [], ◌++◌, append-nil}
-use mathlib.Core.Option.{Option, none, some}
+use mathlib.Core.Option as maybe
+use mathlib.Core.Option.{none, some}
 use mathlib.Core.Bool.{Bool, true, false, ◌&&◌, false≢true}
 use native.Mathlib.Omega.{arith}
 use borrow.Author.Tests.{eqb-true, eq-eqb}
+use Rattle.std.specs.Prelude.{Option, None, Some}
+use Rattle.std.proofs.lemmas.Option.{none-some, same_Some}
 use lib.Dec.{eqb}
 use lib.ListN.{length, take, drop, replicate, length-append, length-drop, take-append-drop, drop_of_length-le}
 use lib.Seq.{take_at, length-take-le}
@@ -29,7 +32,7 @@ use Rattle.unpacking.specs.AsWords.{AsWords}
 use Rattle.unpacking.specs.Unpacked.{RowOf, snap_row}
 use Rattle.unpacking.proofs.Parts.{follows}
 use Rattle.reading.specs.Told.{Snapshot, TellsSnapshot}
-use Rattle.reading.specs.Stream.{good_of, before_of, TellsSection, HeadAt, TellsHead}
+use Rattle.reading.specs.Stream.{good_of, before_of, SectionAt, TellsSection, SectionsAt, TellsSections, HeadAt, TellsHead}
 use Rattle.reading.proofs.Bytes.{snapshot_eights}
 
 -- ---- the settings
@@ -71,24 +74,22 @@ head_told ws r v l e = record {
 
 -- ---- the board
 
--- a section that stands there is told
-record Reached (k : RowKind) (ws rest : List ℕ) (at r : ℕ) (xs : List (RowOf k)) : Type 0 where
-  end : r ≡ at + length (section (snap_row k) xs)
-  past : drop r ws ≡ rest
-  more : 0 < r
+-- a section that stands there, and what follows it
+module _ (k : RowKind) (cap : ℕ) (ws : List ℕ) (at : ℕ) (xs : List (RowOf k)) where
+  end_of : ℕ
+  end_of = at + length (section (snap_row k) xs)
 
-reaches : (k : RowKind) (cap : ℕ) (ws rest : List ℕ) (at r : ℕ) (xs : List (RowOf k)) → TellsSection k cap ws at r → 0 < at → good_list cap (good_of k) (before_of k) xs ≡ true
-    → drop at ws ≡ section (snap_row k) xs ++ rest → Reached k ws rest at r xs
-reaches k cap ws rest at r xs t h g w =
-    let e = at + length (section (snap_row k) xs) in
-    let p : drop e ws ≡ rest = follows at e ws (section (snap_row k) xs) rest w refl in
-    let q : r ≡ e = t.held e h (record { rows = xs; good = g; words = w ∙ ap (λ (u : List ℕ). section (snap_row k) xs ++ u) (sym p); next = refl }) in
-    record { end = q; past = ap (λ (n : ℕ). drop n ws) q ∙ p; more = omega arith }
+  stands : (rest : List ℕ) → good_list cap (good_of k) (before_of k) xs ≡ true → drop at ws ≡ section (snap_row k) xs ++ rest
+      → SectionAt k cap ws at end_of × (drop end_of ws ≡ rest)
+  unfolding end_of
+  stands rest g w =
+      let p : drop (at + length (section (snap_row k) xs)) ws ≡ rest = follows at (at + length (section (snap_row k) xs)) ws (section (snap_row k) xs) rest w refl in
+      (record { rows = xs; good = g; words = w ∙ ap (λ (u : List ℕ). section (snap_row k) xs ++ u) (sym p); next = refl }, p)
 
--- a section has its count, so its words end where it ends
-to_the_end : (k : RowKind) (ws : List ℕ) (at r : ℕ) (xs : List (RowOf k)) → drop at ws ≡ section (snap_row k) xs ++ [] → Reached k ws [] at r xs → r ≡ length ws
-unfolding section
-to_the_end k ws at r xs w h = omega (arith, ap length w, length-append (section (snap_row k) xs) [], length-drop at ws, h.end)
+  -- a section has its count, so its words end where it ends
+  to_the_end : drop at ws ≡ section (snap_row k) xs ++ [] → end_of ≡ length ws
+  unfolding section end_of
+  to_the_end w = omega (arith, ap length w, length-append (section (snap_row k) xs) [], length-drop at ws)
 
 -- bytes are those of one list of words
 one_words : (bs ws : List ℕ) (b : Board) → AsWords bs ws → well_formed b ≡ true → bs ≡ snapshot_of b → ws ≡ words_of b
@@ -98,49 +99,108 @@ one_words bs ws b h g e =
     let q : words_of_bytes bs ≡ some (words_of b) = ap words_of_bytes e ∙ bytes_read_back (words_of b) (words_are_words b g) in
     cc
 
-module _ (bs ws : List ℕ) (as' : AsWords bs ws) (m c b o r : ℕ) (tm : TellsSection Machines most_machines ws 7 m) (tc : TellsSection Committees most_committees ws m c)
-    (tb : TellsSection Boundaries most_bounds ws c b) (to : TellsSection Rotations most_rotations ws b o) (tr : TellsSection Reshapes most_reshapes ws o r) where
-  board_there : HeadAt ws → r ≡ length ws → Snapshot bs
+-- ---- the sections, one after another
+
+module _ (ws : List ℕ) (at : ℕ) where
+  sections_none : ((e : ℕ) → SectionsAt ws at e → ⊥) → TellsSections ws at None
+  sections_none h = record { yes = tt; held = λ e p. absurd (h e p) }
+
+  pub no_machines : TellsSection Machines most_machines ws at None → TellsSections ws at None
+  no_machines t = sections_none (λ e p. none-some _ (t.held _ p.machines))
+
+  module _ (m : ℕ) (tm : TellsSection Machines most_machines ws at (Some m)) where
+    same_m : (e : ℕ) (p : SectionsAt ws at e) → p.committees_at ≡ m
+    same_m e p = sym (same_Some _ _ (tm.held _ p.machines))
+
+    pub no_committees : TellsSection Committees most_committees ws m None → TellsSections ws at None
+    no_committees t = sections_none (λ e p. none-some _ (t.held _ (subst (λ (i : ℕ). SectionAt Committees most_committees ws i p.bounds_at) (same_m e p) p.committees)))
+
+    module _ (c : ℕ) (tc : TellsSection Committees most_committees ws m (Some c)) where
+      same_c : (e : ℕ) (p : SectionsAt ws at e) → p.bounds_at ≡ c
+      same_c e p = sym (same_Some _ _ (tc.held _ (subst (λ (i : ℕ). SectionAt Committees most_committees ws i p.bounds_at) (same_m e p) p.committees)))
+
+      pub no_bounds : TellsSection Boundaries most_bounds ws c None → TellsSections ws at None
+      no_bounds t = sections_none (λ e p. none-some _ (t.held _ (subst (λ (i : ℕ). SectionAt Boundaries most_bounds ws i p.rotations_at) (same_c e p) p.bounds)))
+
+      module _ (b : ℕ) (tb : TellsSection Boundaries most_bounds ws c (Some b)) where
+        same_b : (e : ℕ) (p : SectionsAt ws at e) → p.rotations_at ≡ b
+        same_b e p = sym (same_Some _ _ (tb.held _ (subst (λ (i : ℕ). SectionAt Boundaries most_bounds ws i p.rotations_at) (same_c e p) p.bounds)))
+
+        pub no_rotations : TellsSection Rotations most_rotations ws b None → TellsSections ws at None
+        no_rotations t = sections_none (λ e p. none-some _ (t.held _ (subst (λ (i : ℕ). SectionAt Rotations most_rotations ws i p.reshapes_at) (same_b e p) p.rotations)))
+
+        module _ (o : ℕ) (to : TellsSection Rotations most_rotations ws b (Some o)) where
+          same_o : (e : ℕ) (p : SectionsAt ws at e) → p.reshapes_at ≡ o
+          same_o e p = sym (same_Some _ _ (to.held _ (subst (λ (i : ℕ). SectionAt Rotations most_rotations ws i p.reshapes_at) (same_b e p) p.rotations)))
+
+          last_there : (e : ℕ) (p : SectionsAt ws at e) → SectionAt Reshapes most_reshapes ws o e
+          last_there e p = subst (λ (i : ℕ). SectionAt Reshapes most_reshapes ws i e) (same_o e p) p.reshapes
+
+          pub sections_told : (r : Option ℕ) → TellsSection Reshapes most_reshapes ws o r → TellsSections ws at r
+          sections_told None t = sections_none (λ e p. none-some _ (t.held e (last_there e p)))
+          sections_told (Some r) t = record {
+            yes = record { committees_at = m; bounds_at = c; rotations_at = b; reshapes_at = o; machines = tm.yes; committees = tc.yes; bounds = tb.yes; rotations = to.yes; reshapes = t.yes };
+            held = λ e p. t.held e (last_there e p);
+          }
+
+module _ (bs ws : List ℕ) (as' : AsWords bs ws) where
+  board_there : HeadAt ws → (r : ℕ) → SectionsAt ws 7 r → r ≡ length ws → Snapshot bs
   unfolding snapshot_of words_of well_formed settings_words
-  board_there h e =
-      let R = tr.yes (omega (arith, ap length h.words)) in
-      let O = to.yes R.0 in
-      let B = tb.yes O.0 in
-      let C = tc.yes B.0 in
-      let M = tm.yes C.0 in
-      let v : Board = record { settings = h.settings; machines = M.1.rows; committees = C.1.rows; bounds = B.1.rows; rotations = O.1.rows; reshapes = R.1.rows } in
+  board_there h r p e =
+      let R = p.reshapes in
+      let O = p.rotations in
+      let B = p.bounds in
+      let C = p.committees in
+      let M = p.machines in
+      let v : Board = record { settings = h.settings; machines = M.rows; committees = C.rows; bounds = B.rows; rotations = O.rows; reshapes = R.rows } in
       let z : drop r ws ≡ [] = drop_of_length-le ws {i = r} (omega arith) in
-      let wr : drop o ws ≡ section reshape_words v.reshapes = R.1.words ∙ ap (λ (u : List ℕ). section reshape_words v.reshapes ++ u) z ∙ append-nil _ in
-      let wo = O.1.words ∙ ap (λ (u : List ℕ). section rotation_words v.rotations ++ u) wr in
-      let wb = B.1.words ∙ ap (λ (u : List ℕ). section boundary_words v.bounds ++ u) wo in
-      let wc = C.1.words ∙ ap (λ (u : List ℕ). section committee_words v.committees ++ u) wb in
-      let wm = M.1.words ∙ ap (λ (u : List ℕ). section machine_words v.machines ++ u) wc in
+      let wr : drop p.reshapes_at ws ≡ section reshape_words v.reshapes = R.words ∙ ap (λ (u : List ℕ). section reshape_words v.reshapes ++ u) z ∙ append-nil _ in
+      let wo = O.words ∙ ap (λ (u : List ℕ). section rotation_words v.rotations ++ u) wr in
+      let wb = B.words ∙ ap (λ (u : List ℕ). section boundary_words v.bounds ++ u) wo in
+      let wc = C.words ∙ ap (λ (u : List ℕ). section committee_words v.committees ++ u) wb in
+      let wm = M.words ∙ ap (λ (u : List ℕ). section machine_words v.machines ++ u) wc in
       record {
         board = v;
-        good = all_joins _ (h.good, (M.1.good, (C.1.good, (B.1.good, (O.1.good, (R.1.good, tt))))));
+        good = all_joins _ (h.good, (M.good, (C.good, (B.good, (O.good, (R.good, tt))))));
         bytes = as'.bytes ∙ ap bytes_of (h.words ∙ ap (λ (u : List ℕ). settings_words v.settings ++ u) wm);
       }
 
-  board_reached : Snapshot bs → HeadAt ws × (r ≡ length ws)
+  board_reached : Snapshot bs → HeadAt ws × SectionsAt ws 7 (length ws)
   unfolding words_of well_formed settings_words
   board_reached h =
       let v = h.board in
       let g = all_parts _ h.good in
       let w : ws ≡ words_of v = one_words bs ws v as' h.good h.bytes in
       let w7 : drop 7 ws ≡ section machine_words v.machines ++ (section committee_words v.committees ++ (section boundary_words v.bounds ++ (section rotation_words v.rotations ++ section reshape_words v.reshapes))) = ap (drop 7) w in
-      let M = reaches Machines most_machines ws _ 7 m v.machines tm (omega arith) g.1.0 w7 in
-      let C = reaches Committees most_committees ws _ m c v.committees tc M.more g.1.1.0 M.past in
-      let B = reaches Boundaries most_bounds ws _ c b v.bounds tb C.more g.1.1.1.0 C.past in
-      let O = reaches Rotations most_rotations ws _ b o v.rotations to B.more g.1.1.1.1.0 B.past in
-      let l : drop o ws ≡ section reshape_words v.reshapes ++ [] = O.past ∙ sym (append-nil _) in
-      let R = reaches Reshapes most_reshapes ws [] o r v.reshapes tr O.more g.1.1.1.1.1.0 l in
-      (record { settings = v.settings; good = g.0; words = w ∙ ap (λ (u : List ℕ). settings_words v.settings ++ u) (sym w7) }, to_the_end Reshapes ws o r v.reshapes l R)
+      let M = stands Machines most_machines ws 7 v.machines _ g.1.0 w7 in
+      let C = stands Committees most_committees ws _ v.committees _ g.1.1.0 M.1 in
+      let B = stands Boundaries most_bounds ws _ v.bounds _ g.1.1.1.0 C.1 in
+      let O = stands Rotations most_rotations ws _ v.rotations _ g.1.1.1.1.0 B.1 in
+      let o = end_of Rotations most_rotations ws _ v.rotations in
+      let l : drop o ws ≡ section reshape_words v.reshapes ++ [] = O.1 ∙ sym (append-nil _) in
+      let R = stands Reshapes most_reshapes ws o v.reshapes [] g.1.1.1.1.1.0 l in (
+        record { settings = v.settings; good = g.0; words = w ∙ ap (λ (u : List ℕ). settings_words v.settings ++ u) (sym w7) },
+        record {
+          committees_at = _;
+          bounds_at = _;
+          rotations_at = _;
+          reshapes_at = _;
+          machines = M.0;
+          committees = C.0;
+          bounds = B.0;
+          rotations = O.0;
+          reshapes = subst (λ (i : ℕ). SectionAt Reshapes most_reshapes ws o i) (to_the_end Reshapes most_reshapes ws o v.reshapes l) R.0;
+        },
+      )
+
+  pub pass_none : TellsSections ws 7 None → TellsSnapshot bs false
+  pass_none t = record { yes = λ y. absurd (false≢true y); held = λ p. absurd (none-some _ (t.held _ (board_reached p).1)) }
 
   -- THE FIRST PASS TELLS, of any bytes, whether they are a well-formed board's snapshot
-  pub pass_tells : (h q : Bool) → TellsHead ws h → q ≡ eqb r (length ws) → TellsSnapshot bs (h && q)
-  pass_tells h q t e = record {
-    yes = λ y. board_there (t.yes (left_true h q y)) (eqb-true r (length ws) (sym e ∙ right_true h q y));
-    held = λ p. let g = board_reached p in both h q (t.held g.0) (e ∙ eq-eqb r (length ws) g.1);
+  pub pass_tells : (r : ℕ) → TellsSections ws 7 (Some r) → (h q : Bool) → TellsHead ws h → q ≡ eqb r (length ws) → TellsSnapshot bs (h && q)
+  pass_tells r s h q t e = record {
+    yes = λ y. board_there (t.yes (left_true h q y)) r s.yes (eqb-true r (length ws) (sym e ∙ right_true h q y));
+    held = λ p. let g = board_reached p in both h q (t.held g.0) (e ∙ eq-eqb r (length ws) (same_Some _ _ (s.held _ g.1)));
   }
 
 pub pass_odd : (bs : List ℕ) → (length bs % 8 ≡ 0 → ⊥) → TellsSnapshot bs false
@@ -151,7 +211,7 @@ pass_odd bs h = record { yes = λ y. absurd (false≢true y); held = λ p. absur
 pub read_refused : (bs before : List ℕ) (r : Bool) → TellsSnapshot bs r → r ≡ false → ReadAs bs before before NotASnapshot
 read_refused bs before r t e = go (read_snapshot bs) refl
   where
-    go : (o : Option Board) → read_snapshot bs ≡ o → ReadAs bs before before NotASnapshot
+    go : (o : maybe.Option Board) → read_snapshot bs ≡ o → ReadAs bs before before NotASnapshot
     go none p = not_snapshot p refl refl
     go (some b) p = let w = snapshot_read_writes bs b p in absurd (false≢true (sym e ∙ t.held (record { board = b; good = w.1; bytes = w.0 })))
 

@@ -7,6 +7,8 @@ use mathlib.Core.Bool.{Bool, true, false, false≢true}
 use native.Mathlib.Omega.{arith}
 use native.Mathlib.Numerals.{add-one}
 use lib.Dec.{ltb}
+use Rattle.std.specs.Prelude.{None, Some}
+use Rattle.std.proofs.lemmas.Option.{none-some, same_Some}
 use lib.ListN.{length, get_or, drop}
 use lib.Seq.{drop-cons}
 use Rattle.types.specs.Numbers.{Id}
@@ -19,7 +21,7 @@ use Rattle.board.specs.Layout.{committee_row}
 use Rattle.row_tests.specs.declared.RowKind.TheVariants.{Committees}
 use Rattle.word_tests.specs.Tests.{rises}
 use Rattle.unpacking.proofs.Parts.{ends, follows}
-use Rattle.id_lists.specs.Told.{IdsAt, TellsIds}
+use Rattle.id_lists.specs.Told.{IdsAt, TellsIdList}
 use Rattle.reading.specs.Stream.{RowAt, TellsRow}
 use Rattle.reading.proofs.Streams.{none_told, rises_one}
 
@@ -50,21 +52,21 @@ module _ (last : Bool) (ws : List ℕ) (a : ℕ) where
         };
       }
 
-  pub committee_past : length ws ≤ a → TellsRow Committees last ws a 0
+  pub committee_past : length ws ≤ a → TellsRow Committees last ws a None
   committee_past h = none_told Committees last ws a (λ e p. omega (arith, (there e p).room))
 
-  pub committee_misnamed : is_shard (get_or ws a 0) ≡ false → TellsRow Committees last ws a 0
+  pub committee_misnamed : is_shard (get_or ws a 0) ≡ false → TellsRow Committees last ws a None
   unfolding good_committee
   committee_misnamed h = none_told Committees last ws a (λ e p. false≢true (sym h ∙ ap is_shard (there e p).shard ∙ (and_parts _ _ p.good).0))
 
-  module _ (r : ℕ) (told : TellsIds most_members ws (a + 1) r) where
+  pub members_none : TellsIdList most_members ws (a + 1) None → TellsRow Committees last ws a None
+  members_none told = none_told Committees last ws a (λ e p. none-some _ (told.held e (there e p).members))
+
+  module _ (r : ℕ) (told : TellsIdList most_members ws (a + 1) (Some r)) where
     same_end : (e : ℕ) (p : RowAt Committees last ws a e) → r ≡ e
-    same_end e p = told.held e (there e p).members
+    same_end e p = same_Some _ _ (told.held e (there e p).members)
 
-    pub members_none : r ≡ 0 → TellsRow Committees last ws a 0
-    members_none z = none_told Committees last ws a (λ e p. omega (arith, same_end e p, (there e p).members.next))
-
-    pub committee_falls : last ≡ false → ltb (get_or ws a 0) (get_or ws r 0) ≡ false → TellsRow Committees last ws a 0
+    pub committee_falls : last ≡ false → ltb (get_or ws a 0) (get_or ws r 0) ≡ false → TellsRow Committees last ws a None
     committee_falls l h = none_told Committees last ws a (λ e p. go e p p.order)
       where
         go : (e : ℕ) (p : RowAt Committees last ws a e) → (last ≡ true) ⊎ (rises false (committee_row p.row) (drop e ws) ≡ true) → ⊥
@@ -73,22 +75,22 @@ module _ (last : Bool) (ws : List ℕ) (a : ℕ) where
             false≢true (sym h ∙ ap (λ (s : ℕ). ltb s (get_or ws r 0)) (there e p).shard ∙ ap (λ (k : ℕ). ltb p.row.key (get_or ws k 0)) (same_end e p)
             ∙ order_is ws e p.row.key p.row.val ∙ y)
 
-    pub committee_told : a < length ws → 0 < r → is_shard (get_or ws a 0) ≡ true → (last ≡ true) ⊎ (ltb (get_or ws a 0) (get_or ws r 0) ≡ true) → TellsRow Committees last ws a r
+    pub committee_told : a < length ws → is_shard (get_or ws a 0) ≡ true → (last ≡ true) ⊎ (ltb (get_or ws a 0) (get_or ws r 0) ≡ true) → TellsRow Committees last ws a (Some r)
     unfolding committee_words good_committee
-    committee_told room z ok o =
-        let m = told.yes z in
+    committee_told room ok o =
+        let m = told.yes r refl in
         let s = get_or ws a 0 in
         record {
-          yes = λ _. record {
+          yes = record {
             row = entry s m.ids;
             good = and_joins _ _ ok m.good;
             words = drop-cons ws a 0 room ∙ ap (λ (k : ℕ). s ∷ drop k ws) (sym (add-one a)) ∙ ap (λ (u : List ℕ). s ∷ u) m.words;
             next = omega (arith, m.next);
             order = go o;
           };
-          held = same_end;
+          held = λ e p. ap Some (same_end e p);
         }
       where
-        go : (last ≡ true) ⊎ (ltb (get_or ws a 0) (get_or ws r 0) ≡ true) → (last ≡ true) ⊎ (rises false (committee_row (entry (get_or ws a 0) (told.yes z).ids)) (drop r ws) ≡ true)
+        go : (last ≡ true) ⊎ (ltb (get_or ws a 0) (get_or ws r 0) ≡ true) → (last ≡ true) ⊎ (rises false (committee_row (entry (get_or ws a 0) (told.yes r refl).ids)) (drop r ws) ≡ true)
         go (inl y) = inl y
-        go (inr y) = inr (sym (order_is ws r (get_or ws a 0) (told.yes z).ids) ∙ y)
+        go (inr y) = inr (sym (order_is ws r (get_or ws a 0) (told.yes r refl).ids) ∙ y)

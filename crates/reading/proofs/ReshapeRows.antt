@@ -5,6 +5,8 @@ use mathlib.Core.List.{List, [], ◌++◌, append_assoc, append-nil}
 use mathlib.Core.Logic.{◌⊎◌, inl, inr}
 use mathlib.Core.Bool.{Bool, true, false, false≢true}
 use native.Mathlib.Omega.{arith}
+use Rattle.std.specs.Prelude.{None, Some}
+use Rattle.std.proofs.lemmas.Option.{none-some, same_Some}
 use lib.ListN.{length, get_or, take, drop, length-append, length-drop, take-append-drop}
 use lib.Seq.{get_or-drop, take_at, drop-drop, length-take-le}
 use Rattle.rules.specs.Table.{Entry}
@@ -20,18 +22,12 @@ use Rattle.row_tests.specs.declared.RowKind.TheVariants.{Reshapes}
 use Rattle.row_tests.specs.Rows.{reshape_head_ok, scheduled_ok}
 use Rattle.row_tests.proofs.Reshapes.{join, fields_sound, fields_complete, reshape_of, head_is, reshape_good, halves_complete}
 use Rattle.unpacking.proofs.Parts.{ends, follows}
-use Rattle.unpacking.proofs.Rows.{row_some}
-use Rattle.id_lists.specs.Told.{IdsAt, TellsIds}
+use Rattle.id_lists.specs.Told.{IdsAt, TellsIdList}
 use Rattle.reading.specs.Stream.{RowAt, TellsRow}
 use Rattle.reading.specs.Reshape.{TellsSeats, ListsAt, TellsLists}
 use Rattle.reading.proofs.Streams.{none_told}
 
 -- ---- the seats and the halves
-
--- a list is never without words
-past : {A : Type 0} (f : A → List ℕ) (l : List A) (a e : ℕ) → e ≡ a + length (section f l) → 0 < e
-unfolding section
-past f l a e h = omega arith
 
 ids_count : {cap : ℕ} {ws : List ℕ} {a e : ℕ} (p : IdsAt cap ws a e) → get_or ws a 0 ≡ length p.ids
 unfolding section
@@ -39,54 +35,57 @@ ids_count {cap} {ws} {a} p =
     let a0 : a ≡ a + 0 = omega arith in
     ap (at ws) a0 ∙ sym (get_or-drop a ws 0 0) ∙ ap (λ (u : List ℕ). at u 0) p.words
 
-module _ (head ws : List ℕ) (a h : ℕ) (seats : TellsSeats (at head 0) ws a h) where
+module _ (head ws : List ℕ) (a : ℕ) where
   -- no such lists stand there
-  lists_none : ((e : ℕ) → ListsAt head ws a e → ⊥) → TellsLists head ws a 0
-  lists_none f = record { yes = λ p. absurd (omega arith); held = λ e p. absurd (f e p) }
+  lists_none : ((e : ℕ) → ListsAt head ws a e → ⊥) → TellsLists head ws a None
+  lists_none f = record { yes = tt; held = λ e p. absurd (f e p) }
 
-  same_halves : (e : ℕ) (p : ListsAt head ws a e) → h ≡ p.halves
-  same_halves e p = seats.held p.halves p.seated
+  pub no_seats : TellsSeats (at head 0) ws a None → TellsLists head ws a None
+  no_seats seats = lists_none (λ e p. none-some _ (seats.held p.halves p.seated))
 
-  pub no_seats : h ≡ 0 → TellsLists head ws a 0
-  no_seats z = lists_none (λ e p. omega (arith, same_halves e p, past seat_words p.seated.seats _ _ p.seated.next))
+  module _ (h : ℕ) (seats : TellsSeats (at head 0) ws a (Some h)) where
+    same_halves : (e : ℕ) (p : ListsAt head ws a e) → h ≡ p.halves
+    same_halves e p = same_Some _ _ (seats.held p.halves p.seated)
 
-  module _ (m : ℕ) (left : TellsIds most_half ws h m) where
-    same_middle : (e : ℕ) (p : ListsAt head ws a e) → m ≡ p.middle
-    same_middle e p = left.held p.middle (subst (λ (k : ℕ). IdsAt most_half ws k p.middle) (sym (same_halves e p)) p.left)
+    left_there : (e : ℕ) (p : ListsAt head ws a e) → IdsAt most_half ws h p.middle
+    left_there e p = subst (λ (k : ℕ). IdsAt most_half ws k p.middle) (sym (same_halves e p)) p.left
 
-    pub no_left : m ≡ 0 → TellsLists head ws a 0
-    no_left z = lists_none (λ e p. omega (arith, same_middle e p, past id_words p.left.ids _ _ p.left.next))
+    pub no_left : TellsIdList most_half ws h None → TellsLists head ws a None
+    no_left left = lists_none (λ e p. none-some _ (left.held p.middle (left_there e p)))
 
-    module _ (r : ℕ) (right : TellsIds most_half ws m r) where
-      same_end : (e : ℕ) (p : ListsAt head ws a e) → r ≡ e
-      same_end e p = right.held e (subst (λ (k : ℕ). IdsAt most_half ws k e) (sym (same_middle e p)) p.right)
+    module _ (m : ℕ) (left : TellsIdList most_half ws h (Some m)) where
+      same_middle : (e : ℕ) (p : ListsAt head ws a e) → m ≡ p.middle
+      same_middle e p = same_Some _ _ (left.held p.middle (left_there e p))
 
-      pub no_right : r ≡ 0 → TellsLists head ws a 0
-      no_right z = lists_none (λ e p. omega (arith, same_end e p, past id_words p.right.ids _ _ p.right.next))
+      right_there : (e : ℕ) (p : ListsAt head ws a e) → IdsAt most_half ws m e
+      right_there e p = subst (λ (k : ℕ). IdsAt most_half ws k e) (sym (same_middle e p)) p.right
+
+      pub no_right : TellsIdList most_half ws m None → TellsLists head ws a None
+      no_right right = lists_none (λ e p. none-some _ (right.held e (right_there e p)))
 
       -- by the counts of the halves
-      module _ (x y : ℕ) (ex : x ≡ get_or ws h 0) (ey : y ≡ get_or ws m 0) where
-        pub not_scheduled : scheduled_ok (at head 1) (at head 5) x y ≡ false → TellsLists head ws a 0
+      module _ (r : ℕ) (right : TellsIdList most_half ws m (Some r)) (x y : ℕ) (ex : x ≡ get_or ws h 0) (ey : y ≡ get_or ws m 0) where
+        pub not_scheduled : scheduled_ok (at head 1) (at head 5) x y ≡ false → TellsLists head ws a None
         not_scheduled f = lists_none (λ e p.
             let x' : x ≡ length p.left.ids = ex ∙ ap (at ws) (same_halves e p) ∙ ids_count p.left in
             let y' : y ≡ length p.right.ids = ey ∙ ap (at ws) (same_middle e p) ∙ ids_count p.right in
             false≢true (sym f ∙ rw (x', y') p.scheduled))
 
-        pub lists_told : 0 < h → 0 < m → scheduled_ok (at head 1) (at head 5) x y ≡ true → TellsLists head ws a r
-        lists_told i j ok = record {
-          yes = λ k.
-              let l = left.yes j in
-              let q = right.yes k in
-              record {
+        pub lists_told : scheduled_ok (at head 1) (at head 5) x y ≡ true → TellsLists head ws a (Some r)
+        lists_told ok =
+            let l = left.yes m refl in
+            let q = right.yes r refl in
+            record {
+              yes = record {
                 halves = h;
                 middle = m;
-                seated = seats.yes i;
+                seated = seats.yes;
                 left = l;
                 right = q;
                 scheduled = rw (ex ∙ ids_count l, ey ∙ ids_count q) at ok;
               };
-          held = same_end;
-        }
+              held = λ e p. right.held e (right_there e p);
+            }
 
 -- ---- the row
 
@@ -145,25 +144,28 @@ module _ (last : Bool) (ws : List ℕ) (a : ℕ) where
         };
       }
 
-  pub head_short : length ws < a + 9 → TellsRow Reshapes last ws a 0
+  pub head_short : length ws < a + 9 → TellsRow Reshapes last ws a None
   head_short h = none_told Reshapes last ws a (λ e p. omega (arith, (there e p).fits))
 
   module _ (head : List ℕ) (read : head ≡ take 9 (drop a ws)) where
     same : (e : ℕ) (p : RowAt Reshapes last ws a e) → head ≡ reshape_head p.row
     same e p = read ∙ (there e p).first
 
-    pub head_bad : reshape_head_ok head ≡ false → TellsRow Reshapes last ws a 0
+    pub head_bad : reshape_head_ok head ≡ false → TellsRow Reshapes last ws a None
     head_bad h = none_told Reshapes last ws a (λ e p.
         false≢true (sym h ∙ ap reshape_head_ok (same e p ∙ sym (append-nil (reshape_head p.row))) ∙ fields_complete p.row [] p.good))
 
-    module _ (r : ℕ) (told : TellsLists head ws (a + 9) r) where
+    lists_there : (e : ℕ) (p : RowAt Reshapes last ws a e) → ListsAt head ws (a + 9) e
+    lists_there e p = subst (λ (t : List ℕ). ListsAt t ws (a + 9) e) (sym (same e p)) (there e p).lists
+
+    pub no_lists : TellsLists head ws (a + 9) None → TellsRow Reshapes last ws a None
+    no_lists told = none_told Reshapes last ws a (λ e p. none-some _ (told.held e (lists_there e p)))
+
+    module _ (r : ℕ) (told : TellsLists head ws (a + 9) (Some r)) where
       same_last : (e : ℕ) (p : RowAt Reshapes last ws a e) → r ≡ e
-      same_last e p = told.held e (subst (λ (t : List ℕ). ListsAt t ws (a + 9) e) (sym (same e p)) (there e p).lists)
+      same_last e p = same_Some _ _ (told.held e (lists_there e p))
 
-      pub no_lists : r ≡ 0 → TellsRow Reshapes last ws a 0
-      no_lists z = none_told Reshapes last ws a (λ e p. omega (arith, same_last e p, p.next, row_some Reshapes p.row))
-
-      pub reshape_falls : last ≡ false → rises false head (drop r ws) ≡ false → TellsRow Reshapes last ws a 0
+      pub reshape_falls : last ≡ false → rises false head (drop r ws) ≡ false → TellsRow Reshapes last ws a None
       reshape_falls l h = none_told Reshapes last ws a (λ e p. go e p p.order)
         where
           go : (e : ℕ) (p : RowAt Reshapes last ws a e) → (last ≡ true) ⊎ (rises false (reshape_row p.row) (drop e ws) ≡ true) → ⊥
@@ -172,9 +174,9 @@ module _ (last : Bool) (ws : List ℕ) (a : ℕ) where
               false≢true (sym h ∙ sym (order_is p.row head (drop r ws) (ap (λ (u : List ℕ). at u 0) (same e p) ∙ head_key p.row))
               ∙ ap (λ (m : ℕ). rises false (reshape_row p.row) (drop m ws)) (same_last e p) ∙ y)
 
-      pub reshape_told : 0 < r → a + 9 ≤ length ws → reshape_head_ok head ≡ true → (last ≡ true) ⊎ (rises false head (drop r ws) ≡ true) → TellsRow Reshapes last ws a r
-      reshape_told z room ok o =
-          let p = told.yes z in
+      pub reshape_told : a + 9 ≤ length ws → reshape_head_ok head ≡ true → (last ≡ true) ⊎ (rises false head (drop r ws) ≡ true) → TellsRow Reshapes last ws a (Some r)
+      reshape_told room ok o =
+          let p = told.yes in
           let f = fields_sound head ok in
           let v = reshape_of f p.seated.seats p.left.ids p.right.ids in
           let S = section seat_words p.seated.seats in
@@ -189,14 +191,14 @@ module _ (last : Bool) (ws : List ℕ) (a : ℕ) where
           sym (ap (λ (u : List ℕ). u ++ Z) (row_parts v) ∙ append_assoc (reshape_head v) (S ++ (L ++ R)) Z
           ∙ ap (λ (u : List ℕ). reshape_head v ++ u) (append_assoc S (L ++ R) Z ∙ ap (λ (u : List ℕ). S ++ u) (append_assoc L R Z))) in
           record {
-            yes = λ _. record {
+            yes = record {
               row = v;
               good = reshape_good f p.seated.seats p.left.ids p.right.ids p.seated.good p.left.good p.right.good refl refl p.scheduled;
               words = sym (take-append-drop 9 (drop a ws)) ∙ join nine rest ∙ back;
               next = omega (arith, p.seated.next, p.left.next, p.right.next, row_long v);
               order = go v refl o;
             };
-            held = same_last;
+            held = λ e p. ap Some (same_last e p);
           }
         where
           go : (v : Entry Reshape) → at head 0 ≡ v.key → (last ≡ true) ⊎ (rises false head (drop r ws) ≡ true)

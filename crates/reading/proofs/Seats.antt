@@ -6,6 +6,7 @@ use mathlib.Core.Bool.{Bool, true, false, ◌&&◌, ◌||◌, false≢true}
 use native.Mathlib.Omega.{arith}
 use borrow.Author.Tests.{leb-true, le-leb, eqb-false}
 use lib.Dec.{eqb}
+use Rattle.std.specs.Prelude.{None, Some}
 use lib.ListN.{length, get_or, take, drop, length-drop, take-append-drop}
 use lib.Seq.{get_or-drop, get_or-take, take_at, take-take, drop-drop, length-take-le}
 use Rattle.rules.specs.Table.{Table}
@@ -143,8 +144,8 @@ section_first l z = refl
 
 module _ (target : ℕ) (ws : List ℕ) (a n : ℕ) (count : n ≡ get_or ws a 0) where
   -- no seats stand there
-  seats_none : ((e : ℕ) → SeatsAt target ws a e → ⊥) → TellsSeats target ws a 0
-  seats_none h = record { yes = λ p. absurd (omega arith); held = λ e p. absurd (h e p) }
+  seats_none : ((e : ℕ) → SeatsAt target ws a e → ⊥) → TellsSeats target ws a None
+  seats_none h = record { yes = tt; held = λ e p. absurd (h e p) }
 
   -- where seats stand, they are n
   record There (e : ℕ) (p : SeatsAt target ws a e) : Type 0 where
@@ -166,23 +167,23 @@ module _ (target : ℕ) (ws : List ℕ) (a n : ℕ) (count : n ≡ get_or ws a 0
         words' = ap (take (1 + n * seat_width)) p.words ∙ take_at (section seat_words l) (drop e ws) (1 + n * seat_width) long;
       }
 
-  pub seats_short : length ws < a + (1 + n * seat_width) → TellsSeats target ws a 0
+  pub seats_short : length ws < a + (1 + n * seat_width) → TellsSeats target ws a None
   seats_short h = seats_none (λ e p. omega (arith, (there e p).fits))
 
-  pub seats_many : most_seats < n → TellsSeats target ws a 0
+  pub seats_many : most_seats < n → TellsSeats target ws a None
   seats_many h = seats_none (λ e p. omega (arith, (there e p).count', few_seats target most_seats p.seats p.good))
 
   abbrev words : List ℕ
   words = take (1 + n * seat_width) (drop a ws)
 
-  pub seats_bad : false ≡ table_ok (seat_ok target) (rises false) seat_width n words → TellsSeats target ws a 0
+  pub seats_bad : false ≡ table_ok (seat_ok target) (rises false) seat_width n words → TellsSeats target ws a None
   seats_bad h = seats_none (λ e p.
       let t = there e p in
       let g = within target most_seats n p.seats (omega (arith, t.count')) p.good in
       false≢true (h ∙ ap (table_ok (seat_ok target) (rises false) seat_width n) (t.words' ∙ sym (packed n p.seats t.count')) ∙ (decided target n).complete p.seats g))
 
   pub seats_told : n ≤ most_seats → a + (1 + n * seat_width) ≤ length ws → Words ws → true ≡ table_ok (seat_ok target) (rises false) seat_width n words
-      → TellsSeats target ws a (a + (1 + n * seat_width))
+      → TellsSeats target ws a (Some (a + (1 + n * seat_width)))
   seats_told few room v ok =
       let long : length words ≡ 1 + n * seat_width = length-take-le (1 + n * seat_width) (drop a ws) (omega (arith, length-drop a ws)) in
       let d = (decided target n).sound words (words_cut (1 + n * seat_width) (drop a ws) (words_cut a ws v).1).0 long (sym ok) in
@@ -191,12 +192,12 @@ module _ (target : ℕ) (ws : List ℕ) (a n : ℕ) (count : n ≡ get_or ws a 0
       let c : length l ≡ n = sym (count ∙ ap (at ws) (sym a0) ∙ sym (get_or-drop a ws 0 0) ∙ sym (get_or-take (1 + n * seat_width) (drop a ws) 0 0 (omega arith)) ∙ ap (λ (u : List ℕ). at u 0) d.words) in
       let back : words ≡ section seat_words l = d.words ∙ packed n l c in
       record {
-        yes = λ _. record {
+        yes = record {
           seats = l;
           good = within target n most_seats l (omega arith) d.fine;
           words = sym (take-append-drop (1 + n * seat_width) (drop a ws)) ∙ ap (λ (u : List ℕ). u ++ drop (1 + n * seat_width) (drop a ws)) back
               ∙ ap (λ (u : List ℕ). section seat_words l ++ u) (drop-drop (1 + n * seat_width) a ws);
           next = omega (arith, ap length back, long);
         };
-        held = λ e p. sym (there e p).next';
+        held = λ e p. ap Some (sym (there e p).next');
       }

@@ -6,8 +6,10 @@ use mathlib.Core.Logic.{◌⊎◌, inl, inr}
 use mathlib.Core.Bool.{Bool, true, false, false≢true, or-false}
 use native.Mathlib.Omega.{arith}
 use native.Mathlib.Numerals.{add-one}
-use borrow.Author.Tests.{leb-true, le-leb, eqb-true, eq-eqb}
+use borrow.Author.Tests.{leb-true, le-leb, eqb-true, eqb-false, eq-eqb, ne_eqb}
 use lib.Dec.{eqb, ltb}
+use Rattle.std.specs.Prelude.{None, Some}
+use Rattle.std.proofs.lemmas.Option.{none-some, same_Some}
 use lib.ListN.{length, get_or, drop, length-append, length-drop}
 use lib.Seq.{drop-cons, get_or-drop, take-append_seam}
 use Rattle.rules.specs.Lists.{every}
@@ -19,9 +21,11 @@ use Rattle.row_tests.specs.declared.RowKind.{RowKind}
 use Rattle.word_tests.specs.Tests.{all_pass, any_pass, rises}
 use Rattle.row_tests.specs.Rows.{row_ok, in_pairs, width_of}
 use Rattle.word_tests.proofs.Decides.{Words, words_cut}
-use Rattle.unpacking.specs.Unpacked.{RowOf, full_row, snap_row, packed_row, RowRead}
+use Rattle.unpacking.specs.Unpacked.{RowOf, full_row, snap_row, RowRead}
+use Rattle.unpacking.specs.Parts.{CountRead}
+use Rattle.packing.specs.Packed.{row_of}
 use Rattle.unpacking.proofs.Parts.{follows}
-use Rattle.unpacking.proofs.Rows.{packs_row, row_some}
+use Rattle.unpacking.proofs.Rows.{packs_row}
 use Rattle.reading.specs.Stream.{good_of, before_of, RowAt, TellsRow, SectionAt, TellsSection}
 use Rattle.reading.proofs.EachKind.{row_decides, row_roomy, row_says}
 
@@ -47,23 +51,24 @@ part_words ws t u at h e =
 
 module _ (k : RowKind) (last : Bool) (ws : List ℕ) (at : ℕ) where
   -- no row stands there
-  pub none_told : ((e : ℕ) → RowAt k last ws at e → ⊥) → TellsRow k last ws at 0
-  none_told h = record { yes = λ p. absurd (omega arith); held = λ e p. absurd (h e p) }
+  pub none_told : ((e : ℕ) → RowAt k last ws at e → ⊥) → TellsRow k last ws at None
+  none_told h = record { yes = tt; held = λ e p. absurd (h e p) }
+
+  -- nothing was unpacked
+  pub row_missing : (t : List ℕ) → RowRead k ws t at None → TellsRow k last ws at None
+  row_missing t read = none_told (λ e p. none-some _ (read.whole p.row (drop e ws) (row_roomy k p.row p.good) p.words).1)
 
   -- of what was unpacked
-  module _ (t : List ℕ) (r : ℕ) (read : RowRead k ws t at r) where
+  module _ (t : List ℕ) (r : ℕ) (read : RowRead k ws t at (Some r)) where
     ends : (e : ℕ) (p : RowAt k last ws at e) → (t ≡ full_row k p.row) × (r ≡ e)
     ends e p =
         let w = read.whole p.row (drop e ws) (row_roomy k p.row p.good) p.words in
-        (w.0, w.1 ∙ sym p.next)
+        (w.0, same_Some _ _ w.1 ∙ sym p.next)
 
-    pub row_missing : r ≡ 0 → TellsRow k last ws at 0
-    row_missing z = none_told (λ e p. omega (arith, (ends e p).1, p.next, row_some k p.row))
-
-    pub row_bad : row_ok k t ≡ false → TellsRow k last ws at 0
+    pub row_bad : row_ok k t ≡ false → TellsRow k last ws at None
     row_bad h = none_told (λ e p. false≢true (sym h ∙ ap (row_ok k) (ends e p).0 ∙ (row_decides k).complete p.row p.good))
 
-    pub row_falls : last ≡ false → rises (in_pairs k) t (drop r ws) ≡ false → TellsRow k last ws at 0
+    pub row_falls : last ≡ false → rises (in_pairs k) t (drop r ws) ≡ false → TellsRow k last ws at None
     row_falls l h = none_told (λ e p. go e p p.order)
       where
         go : (e : ℕ) (p : RowAt k last ws at e) → (last ≡ true) ⊎ (rises (in_pairs k) (full_row k p.row) (drop e ws) ≡ true) → ⊥
@@ -72,20 +77,20 @@ module _ (k : RowKind) (last : Bool) (ws : List ℕ) (at : ℕ) where
             let q = ends e p in
             false≢true (sym h ∙ ap (λ (u : List ℕ). rises (in_pairs k) u (drop r ws)) q.0 ∙ ap (λ (n : ℕ). rises (in_pairs k) (full_row k p.row) (drop n ws)) q.1 ∙ y)
 
-    pub row_told : 0 < r → Words t → length t ≡ width_of k → row_ok k t ≡ true → (last ≡ true) ⊎ (rises (in_pairs k) t (drop r ws) ≡ true) → TellsRow k last ws at r
-    row_told z v l ok o =
+    pub row_told : Words t → length t ≡ width_of k → row_ok k t ≡ true → (last ≡ true) ⊎ (rises (in_pairs k) t (drop r ws) ≡ true) → TellsRow k last ws at (Some r)
+    row_told v l ok o =
         let d = (row_decides k).sound t v l ok in
         let s : drop at ws ≡ snap_row k d.value ++ drop r ws =
-        read.read z ∙ ap (λ (u : List ℕ). packed_row k u ++ drop r ws) d.words ∙ ap (λ (u : List ℕ). u ++ drop r ws) (packs_row k d.value (row_roomy k d.value d.fine)) in
+        read.read.2 ∙ ap (λ (u : List ℕ). row_of k u ++ drop r ws) d.words ∙ ap (λ (u : List ℕ). u ++ drop r ws) (packs_row k d.value (row_roomy k d.value d.fine)) in
         record {
-          yes = λ _. record {
+          yes = record {
             row = d.value;
             good = d.fine;
             words = s;
-            next = (read.whole d.value (drop r ws) (row_roomy k d.value d.fine) s).1;
+            next = same_Some _ _ (read.whole d.value (drop r ws) (row_roomy k d.value d.fine) s).1;
             order = go d.words o;
           };
-          held = λ e p. (ends e p).1;
+          held = λ e p. ap Some (ends e p).1;
         }
       where
         go : {u : List ℕ} → t ≡ u → (last ≡ true) ⊎ (rises (in_pairs k) t (drop r ws) ≡ true) → (last ≡ true) ⊎ (rises (in_pairs k) u (drop r ws) ≡ true)
@@ -182,6 +187,14 @@ pub rows_fit : (k : RowKind) (w : ℕ) → ((x : RowOf k) → length (snap_row k
 rows_fit k w fw ws n a e p =
     omega (arith, ap length p.words, length-append (rows_words (snap_row k) p.rows) (drop e ws), length-drop a ws, rows_length (snap_row k) w fw p.rows, ap (λ (m : ℕ). m * w) p.count)
 
+-- a row is the last of those that are left where none is after it
+pub last_is : (after n : ℕ) → n ≡ after + 1 → eqb after 0 ≡ eqb n 1
+last_is after n e = go (eqb after 0) refl
+  where
+    go : (b : Bool) → eqb after 0 ≡ b → b ≡ eqb n 1
+    go true h = let z = eqb-true after 0 h in sym (eq-eqb n 1 (omega arith))
+    go false h = sym (ne_eqb n 1 (λ p. eqb-false after 0 h (omega arith)))
+
 -- ---- a section
 
 module _ (k : RowKind) (cap : ℕ) (ws : List ℕ) (at : ℕ) where
@@ -221,26 +234,33 @@ module _ (k : RowKind) (cap : ℕ) (ws : List ℕ) (at : ℕ) where
   }
 
   -- no section stands there
-  pub section_none : ((e : ℕ) → 0 < at → SectionAt k cap ws at e → ⊥) → TellsSection k cap ws at 0
-  section_none h = record { yes = λ p. absurd (omega arith); held = λ e z p. absurd (h e z p) }
+  pub section_none : ((e : ℕ) → SectionAt k cap ws at e → ⊥) → TellsSection k cap ws at None
+  section_none h = record { yes = tt; held = λ e p. absurd (h e p) }
+
+  -- no count does
+  pub count_none : CountRead cap ws at None → TellsSection k cap ws at None
+  count_none c = section_none (λ e p. go e p c.no)
+    where
+      go : (e : ℕ) → SectionAt k cap ws at e → (length ws ≤ at) ⊎ (cap < get_or ws at 0) → ⊥
+      go e p (inl past) = omega (arith, (counted e p).0)
+      go e p (inr many) = omega (arith, (counted e p).1)
+
+  pub count_start : (n : ℕ) → CountRead cap ws at (Some n) → Left n (at + 1)
+  count_start n c = let y = c.yes in rw y.2 (start y.0 (omega (arith, y.1, y.2)))
 
   module _ (n a : ℕ) (left : Left n a) where
-    pub section_over : n ≡ 0 → 0 < at → TellsSection k cap ws at a
-    section_over z h = record {
-      yes = λ _. (h, left.into a (rw z (rows_none k ws a)));
-      held = λ e _ p. rows_over k ws a e (rw z at (left.back e p));
+    pub section_over : n ≡ 0 → TellsSection k cap ws at (Some a)
+    section_over z = record {
+      yes = left.into a (rw z (rows_none k ws a));
+      held = λ e p. ap Some (rows_over k ws a e (rw z at (left.back e p)));
     }
 
-    module _ (last : Bool) (h : 0 < n) (l : last ≡ eqb n 1) (r : ℕ) (told : TellsRow k last ws a r) where
-      same_end : (e : ℕ) (p : Parted k ws n a last h l e) → r ≡ p.middle
-      same_end e p = told.held p.middle p.first
+    module _ (last : Bool) (h : 0 < n) (l : last ≡ eqb n 1) where
+      pub section_fails : TellsRow k last ws a None → TellsSection k cap ws at None
+      section_fails told = section_none (λ e p. let q = rows_part k ws n a last h l e (left.back e p) in none-some _ (told.held q.middle q.first))
 
-      pub section_fails : r ≡ 0 → TellsSection k cap ws at 0
-      section_fails z =
-          section_none (λ e _ p. let q = rows_part k ws n a last h l e (left.back e p) in omega (arith, same_end e q, q.first.next, row_some k q.first.row))
-
-      pub section_more : 0 < r → Left (n - 1) r
-      section_more z = record {
-        into = λ e p. left.into e (rows_join k ws n a last h l r e (told.yes z) p);
-        back = λ e p. let q = rows_part k ws n a last h l e (left.back e p) in let s = same_end e q in rw s q.others;
+      pub section_more : (r : ℕ) → TellsRow k last ws a (Some r) → Left (n - 1) r
+      section_more r told = record {
+        into = λ e p. left.into e (rows_join k ws n a last h l r e told.yes p);
+        back = λ e p. let q = rows_part k ws n a last h l e (left.back e p) in let s = same_Some _ _ (told.held q.middle q.first) in rw s q.others;
       }

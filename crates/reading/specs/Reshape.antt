@@ -1,5 +1,5 @@
 -- A reshape in a snapshot's words after the first nine: its seats, and the ids of its halves.
-use Rattle.std.specs.Prelude.{ℕ, ◌+◌, ◌<◌, ◌≡◌, List, ◌++◌, true, length, drop}
+use Rattle.std.specs.Prelude.{ℕ, ◌+◌, ◌≡◌, List, ◌++◌, true, length, drop, Option, Some, IfSome}
 use Rattle.rules.specs.Table.{Table}
 use Rattle.rules.specs.Board.{Seat, most_seats, most_half}
 use Rattle.rules.specs.WellFormed.{good_table, good_seat}
@@ -15,10 +15,10 @@ pub record SeatsAt (target : ℕ) (ws : List ℕ) (a e : ℕ) : Type 0 where
   pub words : drop a ws ≡ section seat_words seats ++ drop e ws
   pub next : e ≡ a + length (section seat_words seats)
 
--- r is where they end, and 0 where there are none
-pub record TellsSeats (target : ℕ) (ws : List ℕ) (a r : ℕ) : Type 0 where
-  pub yes : 0 < r → SeatsAt target ws a r
-  pub held : (e : ℕ) → SeatsAt target ws a e → r ≡ e
+-- r is where they end, if there are any
+pub record TellsSeats (target : ℕ) (ws : List ℕ) (a : ℕ) (r : Option ℕ) : Type 0 where
+  pub yes : IfSome r (SeatsAt target ws a)
+  pub held : (e : ℕ) → SeatsAt target ws a e → r ≡ Some e
 
 -- the seats and the halves from a up to e, as the first words allow them
 pub record ListsAt (head ws : List ℕ) (a e : ℕ) : Type 0 where
@@ -29,7 +29,7 @@ pub record ListsAt (head ws : List ℕ) (a e : ℕ) : Type 0 where
   pub right : IdsAt most_half ws middle e
   pub scheduled : scheduled_ok (at head 1) (at head 5) (length left.ids) (length right.ids) ≡ true
 
--- r is where they end, and 0 where there are none
-pub record TellsLists (head ws : List ℕ) (a r : ℕ) : Type 0 where
-  pub yes : 0 < r → ListsAt head ws a r
-  pub held : (e : ℕ) → ListsAt head ws a e → r ≡ e
+-- r is where they end, if there are such
+pub record TellsLists (head ws : List ℕ) (a : ℕ) (r : Option ℕ) : Type 0 where
+  pub yes : IfSome r (ListsAt head ws a)
+  pub held : (e : ℕ) → ListsAt head ws a e → r ≡ Some e

@@ -1,19 +1,20 @@
 // Reshapes told by their packed words, without a row in full width.
 ghost use Rattle.std.specs.Prelude.{◌≡◌, List, false, ℕ, ◌+◌, ◌*◌, ◌/◌, ◌≤◌, ◌<◌, length, get_or, take, drop};
-ghost use Rattle.word_tests.specs.Tests.{mark_count, rises, first_ok, table_ok};
-ghost use Rattle.rules.specs.Board.{most_reshapes};
+ghost use Rattle.word_tests.specs.Tests.{rises, first_ok, table_ok};
 ghost use Rattle.board.specs.Layout.{seat_width, seats_at};
+ghost use Rattle.row_tests.specs.declared.RowKind.{RowKind};
 ghost use Rattle.row_tests.specs.Rows.{seat_ok};
 ghost use Rattle.unpacking.specs.AsWords.{AsWords};
-ghost use Rattle.reading.specs.Stream.{TellsRow, TellsSection};
+ghost use Rattle.reading.specs.Stream.{TellsRow};
 ghost use Rattle.reading.specs.Reshape.{TellsSeats, TellsLists};
 
-use super::first_rises_to;
-use board::layout::{MOST_HALF, MOST_RESHAPES, MOST_SEATS, SEAT_WIDTH, SEATS_AT};
+use super::{RowEnds, first_rises_to};
+use board::layout::{MOST_HALF, MOST_SEATS, SEAT_WIDTH, SEATS_AT};
 use bytes_words::{get_words, word_at};
-use id_lists::ids_end;
+use id_lists::id_list_end;
 use row_tests::{RowKind, reshape_head_ok, scheduled_ok, seat_ok};
 use unpacking::word;
+use word_tests::Marks;
 
 // ---- Seats
 
@@ -35,118 +36,89 @@ fn seats_ok(target: u64, n: usize, bytes: &[u8], at: usize) -> bool
     requires { at + (1 + n * seat_width) ≤ length bytes.now / 8 }
     ensures { (ws : List ℕ) → AsWords bytes.now ws → n ≡ get_or ws at 0 → result ≡ table_ok (seat_ok target) (rises false) seat_width n (take (1 + n * seat_width) (drop at ws)) }
 {
-    let mut left = n;
-    let mut a: usize = 1;
-    while 0 < left {
-        if !first_seat_ok(target, left, bytes, at + a) {
+    let mut seat: usize = 1;
+    for after in (0..n).rev() {
+        if !first_seat_ok(target, after + 1, bytes, at + seat) {
             return false;
         }
-        a += SEAT_WIDTH;
-        left -= 1;
+        seat += SEAT_WIDTH;
     }
     true
 }
 
-// Where the count at a place and that many seats of the target end; 0 where there are none.
-fn seats_end(target: u64, bytes: &[u8], at: usize) -> usize
+// Where the count at a place and that many seats of the target end.
+fn seats_end(target: u64, bytes: &[u8], at: usize) -> Option<usize>
     ensures { (ws : List ℕ) → AsWords bytes.now ws → TellsSeats target ws at result }
 {
     let total = bytes.len() / 8;
     if total <= at {
-        return 0;
+        return None;
     }
     let n = word_at(bytes, 8 * at) as usize;
     if MOST_SEATS < n {
-        return 0;
+        return None;
     }
     let size = 1 + n * SEAT_WIDTH;
     if total - at < size {
-        return 0;
+        return None;
     }
     if !seats_ok(target, n, bytes, at) {
-        return 0;
+        return None;
     }
-    at + size
+    Some(at + size)
 }
 
 // ---- Rows
 
-// Where the seats and the halves at a place end, after these first words; 0 where there are none. A turn has two stamps of its own, which no committee has.
-fn lists_end(head: &[u64], bytes: &[u8], at: usize, marks: &mut [u8], turn: usize) -> usize
-    requires { (length head.now ≡ seats_at) × (length marks.old ≡ mark_count) }
+// Where the seats and the halves at a place end, after these first words.
+fn lists_end(head: &[u64], bytes: &[u8], at: usize, marks: &mut Marks) -> Option<usize>
+    requires { length head.now ≡ seats_at }
     ensures { (ws : List ℕ) → AsWords bytes.now ws → TellsLists head.now ws at result }
 {
-    let halves = seats_end(head[0], bytes, at);
-    if halves == 0 {
-        return 0;
-    }
-    let stamp = 64 + (turn % 64) as u8;
-    let middle = ids_end(MOST_HALF, marks, stamp, bytes, halves);
-    if middle == 0 {
-        return 0;
-    }
-    let end = ids_end(MOST_HALF, marks, stamp + 64, bytes, middle);
-    if end == 0 {
-        return 0;
-    }
+    let halves = seats_end(head[0], bytes, at)?;
+    let middle = id_list_end(MOST_HALF, marks, bytes, halves)?;
+    let end = id_list_end(MOST_HALF, marks, bytes, middle)?;
     if !scheduled_ok(head[1], head[5], word(bytes, halves), word(bytes, middle)) {
-        return 0;
+        return None;
     }
-    end
+    Some(end)
 }
 
 // As `row_end`, of a reshape.
-fn reshape_end(last: bool, bytes: &[u8], at: usize, marks: &mut [u8], turn: usize) -> usize
-    requires { length marks.old ≡ mark_count }
+fn reshape_end(last: bool, bytes: &[u8], at: usize, marks: &mut Marks) -> Option<usize>
     ensures { (ws : List ℕ) → AsWords bytes.now ws → TellsRow RowKind.Reshapes last ws at result }
 {
     let total = bytes.len() / 8;
     if total <= at {
-        return 0;
+        return None;
     }
     if total < at + SEATS_AT {
-        return 0;
+        return None;
     }
     let mut head: [u64; SEATS_AT] = [0; SEATS_AT];
     get_words(bytes, 8 * at, &mut head);
     if !reshape_head_ok(&head) {
-        return 0;
+        return None;
     }
-    let e = lists_end(&head, bytes, at + SEATS_AT, marks, turn);
-    if e == 0 {
-        return 0;
-    }
+    let end = lists_end(&head, bytes, at + SEATS_AT, marks)?;
     if last {
-        return e;
+        return Some(end);
     }
-    if !first_rises_to(&head, bytes, e) {
-        return 0;
+    if !first_rises_to(&head, bytes, end) {
+        return None;
     }
-    e
+    Some(end)
 }
 
-// As `section_end`, of the reshapes.
-pub fn reshapes_end(bytes: &[u8], at: usize, marks: &mut [u8]) -> usize
-    requires { length marks.old ≡ mark_count }
-    ensures { (ws : List ℕ) → AsWords bytes.now ws → TellsSection RowKind.Reshapes most_reshapes ws at result }
-{
-    if at == 0 {
-        return 0;
+#[derive(Drop)]
+pub struct Reshapes<'a> {
+    pub marks: &'a mut Marks,
+}
+
+impl<'a> RowEnds for Reshapes<'a> {
+    ghost kind = { RowKind.Reshapes };
+
+    fn row_end(&mut self, last: bool, bytes: &[u8], at: usize) -> Option<usize> {
+        reshape_end(last, bytes, at, self.marks)
     }
-    if bytes.len() / 8 <= at {
-        return 0;
-    }
-    let mut n = word(bytes, at) as usize;
-    if MOST_RESHAPES < n {
-        return 0;
-    }
-    let mut a = at + 1;
-    while 0 < n {
-        a = reshape_end(n == 1, bytes, a, marks, n);
-        if a == 0 {
-            return 0;
-        }
-        n -= 1;
-    }
-    a
 }

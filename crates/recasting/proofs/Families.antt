@@ -2,9 +2,10 @@
 use Prim.Native.Nat.{ℕ, ◌≤◌, ◌<◌}
 use mathlib.Core.Path.{◌≡◌, refl, ap, sym}
 use mathlib.Core.List.{List, []}
+use mathlib.Core.Option.{none}
 use mathlib.Core.Bool.{true}
 use native.Mathlib.Omega.{arith}
-use lib.ListN.{length, set}
+use lib.ListN.{length, get_or, set}
 use Rattle.types.specs.Numbers.{Shard, Id, Height}
 use Rattle.types.specs.Shards.{left_of, right_of}
 use Rattle.rules.specs.Table.{Entry, entry, Table, at, put, remove}
@@ -24,13 +25,12 @@ use Rattle.board.specs.Held.{Holds, no_committee, no_boundary}
 use Rattle.board.specs.Leaves.{change_at}
 use Rattle.board.proofs.Fitting.{held_as}
 use Rattle.board.proofs.Keyed.{put_is_change, committees_rise, bounds_rise}
-use Rattle.rows.specs.Found.{Found}
 use Rattle.recasting.proofs.Sizes.{put_length, lack_none}
 use Rattle.recasting.specs.Recast.{recast_tables}
 
 -- a row more has room, at its place
-pub more_room : {A : Type 0} {most i : ℕ} {d : Entry A} (s : ℕ) (v : A) (t : Table A) → From 0 t → Found most s d t i → most ≤ i → length (put s v t) ≤ most → length t < most
-more_room s v t r f l m = omega (arith, m, put_length s t r v, lack_none s t (f.missing l))
+pub more_room : {A : Type 0} {most : ℕ} (s : ℕ) (v : A) (t : Table A) → From 0 t → at s t ≡ none → length (put s v t) ≤ most → length t < most
+more_room s v t r n m = omega (arith, m, put_length s t r v, lack_none s t n)
 
 pub place_most : {A : Type 0} (s : ℕ) (t : Table A) → place_of key_of s t ≤ length t
 place_most s t = first_most _ t
@@ -44,27 +44,25 @@ module _ (b : Board) (ok : well_formed b ≡ true) (after : List ℕ) (s : Shard
   abbrev vs : Table Boundary
   vs = b.bounds
 
-  module _ (j : ℕ) (f : Found most_committees s no_committee cs j) where
-    pub none_closed : most_committees ≤ j → Holds after b → Holds after (on_committees (remove s) b)
-    none_closed l h = held_as after _ _ (ap (λ (t : Table (List Id)). on_committees (λ _. t) b) (sym (remove_none s cs (f.missing l)))) h
+  pub none_closed : at s cs ≡ none → Holds after b → Holds after (on_committees (remove s) b)
+  none_closed n h = held_as after _ _ (ap (λ (t : Table (List Id)). on_committees (λ _. t) b) (sym (remove_none s cs n))) h
 
-    pub one_closed : j < most_committees → Holds after (on_committees (λ t. remove_at t j) b) → Holds after (on_committees (remove s) b)
-    one_closed l h = held_as after _ _ (ap (λ (t : Table (List Id)). on_committees (λ _. t) b) (sym (remove_is_remove_at cs (committees_rise b ok) s j no_committee (f.inside l) (f.named l)))) h
+  pub one_opened : at s cs ≡ none → (k : ℕ) → k ≡ place_of key_of s cs → Holds after (on_committees (λ t. insert_at t k (entry s [])) b) → Holds after (on_committees (put s []) b)
+  one_opened n k e h = held_as after _ _ (ap (λ (t : Table (List Id)). on_committees (λ _. t) b) (rw e (sym (put_is_insert_at cs (committees_rise b ok) s [] n)))) h
 
-    pub one_emptied : j < most_committees → Holds after (on_committees (change_at no_committee j (λ l. [])) b) → Holds after (on_committees (put s []) b)
-    one_emptied l h = held_as after _ _ (ap (λ (t : Table (List Id)). on_committees (λ _. t) b) (sym (put_is_change cs (committees_rise b ok) s j no_committee (f.inside l) (f.named l) []))) h
+  module _ (j : ℕ) (l : j < length cs) (k : (get_or cs j no_committee).key ≡ s) where
+    pub one_closed : Holds after (on_committees (λ t. remove_at t j) b) → Holds after (on_committees (remove s) b)
+    one_closed h = held_as after _ _ (ap (λ (t : Table (List Id)). on_committees (λ _. t) b) (sym (remove_is_remove_at cs (committees_rise b ok) s j no_committee l k))) h
 
-    module _ (l : most_committees ≤ j) where
-      pub one_opened : (k : ℕ) → k ≡ place_of key_of s cs → Holds after (on_committees (λ t. insert_at t k (entry s [])) b) → Holds after (on_committees (put s []) b)
-      one_opened k e h = held_as after _ _ (ap (λ (t : Table (List Id)). on_committees (λ _. t) b) (rw e (sym (put_is_insert_at cs (committees_rise b ok) s [] (f.missing l))))) h
+    pub one_emptied : Holds after (on_committees (change_at no_committee j (λ l. [])) b) → Holds after (on_committees (put s []) b)
+    one_emptied h = held_as after _ _ (ap (λ (t : Table (List Id)). on_committees (λ _. t) b) (sym (put_is_change cs (committees_rise b ok) s j no_committee l k []))) h
 
-  module _ (v : Boundary) (i : ℕ) (f : Found most_bounds s no_boundary vs i) where
-    pub one_renewed : i < most_bounds → Holds after (on_bounds (λ t. set t i (entry s v)) b) → Holds after (on_bounds (put s v) b)
-    one_renewed l h = held_as after _ _ (ap (λ (t : Table Boundary). on_bounds (λ _. t) b) (sym (put_is_set vs (bounds_rise b ok) s i no_boundary (f.inside l) (f.named l) v))) h
+  module _ (v : Boundary) where
+    pub one_renewed : (i : ℕ) → i < length vs → (get_or vs i no_boundary).key ≡ s → Holds after (on_bounds (λ t. set t i (entry s v)) b) → Holds after (on_bounds (put s v) b)
+    one_renewed i l k h = held_as after _ _ (ap (λ (t : Table Boundary). on_bounds (λ _. t) b) (sym (put_is_set vs (bounds_rise b ok) s i no_boundary l k v))) h
 
-    module _ (l : most_bounds ≤ i) where
-      pub bound_opened : (k : ℕ) → k ≡ place_of key_of s vs → Holds after (on_bounds (λ t. insert_at t k (entry s v)) b) → Holds after (on_bounds (put s v) b)
-      bound_opened k e h = held_as after _ _ (ap (λ (t : Table Boundary). on_bounds (λ _. t) b) (rw e (sym (put_is_insert_at vs (bounds_rise b ok) s v (f.missing l))))) h
+    pub bound_opened : at s vs ≡ none → (k : ℕ) → k ≡ place_of key_of s vs → Holds after (on_bounds (λ t. insert_at t k (entry s v)) b) → Holds after (on_bounds (put s v) b)
+    bound_opened n k e h = held_as after _ _ (ap (λ (t : Table Boundary). on_bounds (λ _. t) b) (rw e (sym (put_is_insert_at vs (bounds_rise b ok) s v n)))) h
 
 -- ---- boards on the way
 

@@ -2,15 +2,15 @@
 use Prim.Native.Nat.{ℕ, zero, suc, ◌≤◌, ◌<◌}
 use mathlib.Core.Path.{◌≡◌, refl, ap, sym, ◌∙◌}
 use mathlib.Core.List.{List, [], ◌∷◌}
-use mathlib.Core.Option.{none}
-use mathlib.Core.Bool.{Bool, true, false}
+use mathlib.Core.Option.{Option, none, some}
+use mathlib.Core.Bool.{Bool, true, false, true≢false}
 use native.Mathlib.Omega.{arith}
 use borrow.Author.Tests.{le-leb}
 use lib.Dec.{eqb}
 use lib.ListN.{length, get_or}
 use Rattle.types.specs.Numbers.{Shard, Id, Height}
 use Rattle.types.specs.Shards.{left_of, right_of}
-use Rattle.rules.specs.Table.{Entry, entry, Table, at, put, remove}
+use Rattle.rules.specs.Table.{Entry, entry, Table, is_some, at, stands, put, remove}
 use Rattle.rules.specs.Board.{merge, Board, most_committees, on_committees}
 use Rattle.rules.specs.WellFormed.{well_formed}
 use Rattle.rules.specs.Cut.{recast, fits}
@@ -22,7 +22,6 @@ use Rattle.tables.specs.Rows.{insert_at, remove_at, first_where, place_of, key_o
 use Rattle.tables.proofs.Keys.{remove_none, remove_is_remove_at, put_is_insert_at, place_under}
 use Rattle.board.specs.Held.{Holds, no_committee}
 use Rattle.board.proofs.Fitting.{held_as}
-use Rattle.rows.specs.Found.{Found}
 use Rattle.recasting.proofs.Families.{good_end, committees_fit_lem, both_ended, parent_fits}
 
 module _ {A : Type 0} where
@@ -53,23 +52,32 @@ module _ {A : Type 0} where
       ∙ ap (λ (u : Table A). insert_at u (place_of key_of new u) (entry new v)) (remove_is_remove_at t (from_rising 0 t r) old j d h e)
       ∙ ap (λ (p : ℕ). insert_at (remove_at t j) p (entry new v)) (place_out new 0 t j d r h (omega arith))
 
+  -- what does not stand
+  nowhere : (k : ℕ) (t : Table A) → stands k t ≡ false → at k t ≡ none
+  unfolding stands is_some
+  nowhere k t e = go (at k t) e
+    where
+      go : (o : Option A) → is_some o ≡ false → o ≡ none
+      go none q = refl
+      go (some v) q = absurd (true≢false q)
+
 -- ---- at the row that was found
 
-module _ (b : Board) (ok : well_formed b ≡ true) (old new : Shard) (l : new < old) (j : ℕ) (f : Found most_committees old no_committee b.committees j) where
+module _ (b : Board) (ok : well_formed b ≡ true) (old new : Shard) (l : new < old) where
   abbrev cs : Table (List Id)
   cs = b.committees
 
-  pub none_replaced : (after : List ℕ) → most_committees ≤ j → Holds after (on_committees (put new []) b) → Holds after (on_committees (λ t. put new [] (remove old t)) b)
-  none_replaced after m h = held_as after _ _ (ap (λ (t : Table (List Id)). on_committees (λ _. put new [] t) b) (sym (remove_none old cs (f.missing m)))) h
+  pub none_replaced : (after : List ℕ) → at old cs ≡ none → Holds after (on_committees (put new []) b) → Holds after (on_committees (λ t. put new [] (remove old t)) b)
+  none_replaced after n h = held_as after _ _ (ap (λ (t : Table (List Id)). on_committees (λ _. put new [] t) b) (sym (remove_none old cs n))) h
 
-  module _ (m : j < most_committees) (k : ℕ) (e : k ≡ place_of key_of new cs) where
+  module _ (j : ℕ) (m : j < length cs) (o : (get_or cs j no_committee).key ≡ old) (k : ℕ) (e : k ≡ place_of key_of new cs) where
     pub place_within : k ≤ j
-    place_within = rw e (place_under key_of cs j no_committee new (f.inside m) (omega (arith, f.named m)))
+    place_within = rw e (place_under key_of cs j no_committee new m (omega (arith, o)))
 
-    pub one_replaced : (after : List ℕ) → at new cs ≡ none → Holds after (on_committees (λ t. insert_at (remove_at t j) k (entry new [])) b) → Holds after (on_committees (λ t. put new [] (remove old t)) b)
+    pub one_replaced : (after : List ℕ) → stands new cs ≡ false → Holds after (on_committees (λ t. insert_at (remove_at t j) k (entry new [])) b) → Holds after (on_committees (λ t. put new [] (remove old t)) b)
     one_replaced after q h =
         held_as after _ _
-        (ap (λ (t : Table (List Id)). on_committees (λ _. t) b) (rw e (sym (put_for cs (good_of_lem b ok).committees.rising old new j [] no_committee (f.inside m) (f.named m) l q)))) h
+        (ap (λ (t : Table (List Id)). on_committees (λ _. t) b) (rw e (sym (put_for cs (good_of_lem b ok).committees.rising old new j [] no_committee m o l (nowhere new cs q))))) h
 
 -- ---- a merge's committees: the right child's goes first
 

@@ -4,7 +4,7 @@ use mathlib.Core.Path.{◌≡◌, refl, ap, sym, ◌∙◌}
 use mathlib.Core.Logic.{◌≢◌}
 use mathlib.Core.List.{[]}
 use mathlib.Core.Option.{Option, none, some}
-use mathlib.Core.Bool.{true, false, not}
+use mathlib.Core.Bool.{Bool, true, false, not}
 use borrow.Author.Tests.{lt-leb}
 use native.Mathlib.Omega.{arith}
 use lib.Dec.{leb}
@@ -25,21 +25,17 @@ use Rattle.rules.proofs.KeptBoard.{Good}
 use Rattle.tables.specs.Rows.{Rising, key_of, place_of}
 use Rattle.tables.proofs.Keys.{first_most, at_is, remove_none, remove_is_remove_at, put_is_insert_at, place_is}
 use Rattle.board.proofs.Fitting.{insert_length}
-use Rattle.rows.specs.Found.{Found}
 use Rattle.recasting.specs.Recast.{lack, family_count}
 
--- ---- a row that was looked for
-
-module _ {A : Type 0} {most k : ℕ} {d : Entry A} {t : Table A} {r : ℕ} (f : Found most k d t r) where
-  pub found_stands : Rising key_of t → r < most → stands k t ≡ true
-  unfolding stands is_some
-  found_stands rise l = ap is_some (at_is t rise k r d (f.inside l) (f.named l))
-
-  pub missing_stands : most ≤ r → stands k t ≡ false
-  unfolding stands is_some
-  missing_stands l = ap is_some (f.missing l)
-
 -- ---- one row
+
+pub lack_told : {A : Type 0} (k : ℕ) (t : Table A) (c s : Bool) → s ≡ not c → s ≡ stands k t → bit_of c ≡ lack k t
+lack_told k t true s e f = rw (sym f ∙ e)
+lack_told k t false s e f = rw (sym f ∙ e)
+
+pub bit_most : (c : Bool) → bit_of c ≤ 1
+bit_most true = omega arith
+bit_most false = omega arith
 
 pub lack_none : {A : Type 0} (k : ℕ) (t : Table A) → at k t ≡ none → lack k t ≡ 1
 unfolding stands is_some

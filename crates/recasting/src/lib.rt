@@ -24,10 +24,7 @@ fn lacks_committee(board: &[u64], shard: ShardId) -> usize
     requires { length board.now ≡ board_size }
     ensures { (result ≤ 1) × ((b : Board) → Holds board.now b → well_formed b ≡ true → result ≡ lack shard.0 b.committees) }
 {
-    if MOST_COMMITTEES <= rows::committee_row(board, shard) {
-        return 1;
-    }
-    0
+    usize::from(rows::find_committee(board, shard).is_none())
 }
 
 // 1 where the shard has no boundary.
@@ -35,10 +32,7 @@ fn lacks_boundary(board: &[u64], shard: ShardId) -> usize
     requires { length board.now ≡ board_size }
     ensures { (result ≤ 1) × ((b : Board) → Holds board.now b → well_formed b ≡ true → result ≡ lack shard.0 b.bounds) }
 {
-    if MOST_BOUNDS <= rows::bound_row(board, shard) {
-        return 1;
-    }
-    0
+    usize::from(rows::find_bound(board, shard).is_none())
 }
 
 // How many committees there are, with one for each of the family's shards that has none.
@@ -85,10 +79,9 @@ fn close_committee(board: &mut [u64], shard: ShardId)
     requires { length board.old ≡ board_size }
     ensures { (b : Board) → Holds board.old b → well_formed b ≡ true → Holds board.new (on_committees (remove shard.0) b) }
 {
-    let j = rows::committee_row(board, shard);
-    if MOST_COMMITTEES <= j {
+    let Some(j) = rows::find_committee(board, shard) else {
         return;
-    }
+    };
     folding::close(board, j);
 }
 
@@ -108,8 +101,7 @@ fn empty_committee(board: &mut [u64], shard: ShardId)
     ensures { (b : Board) → Holds board.old b → well_formed b ≡ true → length (put shard.0 [] b.committees) ≤ most_committees →
         Holds board.new (on_committees (put shard.0 []) b) }
 {
-    let j = rows::committee_row(board, shard);
-    if j < MOST_COMMITTEES {
+    if let Some(j) = rows::find_committee(board, shard) {
         committees::clear_members(board, j);
         return;
     }
@@ -130,8 +122,7 @@ fn new_boundary(board: &mut [u64], shard: ShardId, height: BlockHeight)
     if LAST_EPOCH < epoch.0 {
         return;
     }
-    let i = rows::bound_row(board, shard);
-    if i < MOST_BOUNDS {
+    if let Some(i) = rows::find_bound(board, shard) {
         bounds::renew(board, i, shard, height, epoch);
         return;
     }
@@ -160,13 +151,11 @@ fn replace_committee(board: &mut [u64], old: ShardId, new: ShardId)
     ensures { (b : Board) → Holds board.old b → well_formed b ≡ true → new.0 < old.0 → length (put new.0 [] (remove old.0 b.committees)) ≤ most_committees →
         Holds board.new (on_committees (λ t. put new.0 [] (remove old.0 t)) b) }
 {
-    let j = rows::committee_row(board, old);
-    if MOST_COMMITTEES <= j {
+    let Some(j) = rows::find_committee(board, old) else {
         empty_committee(board, new);
         return;
-    }
-    let own = rows::committee_row(board, new);
-    if own < MOST_COMMITTEES {
+    };
+    if rows::find_committee(board, new).is_some() {
         close_committee(board, old);
         empty_committee(board, new);
         return;

@@ -1,4 +1,5 @@
-// One machine's record lent to be changed: its place is rewritten by the place's own move.
+// One machine's record lent to be changed: its place is rewritten by the place's own move. One
+// function a move, as each takes other arguments: one generic over the move would be no plainer.
 #![tactic(auto)]
 
 ghost use Rattle.std.specs.Prelude.{◌≡◌};

@@ -1,11 +1,12 @@
 // A recorded call, and the export that makes it.
 use crate::input;
+use crate::kinds::Kind;
 use std::io::Read;
 
 // What was asked, and what came of it.
 #[derive(Clone, Copy)]
 pub struct Call {
-    pub step: u64,
+    pub kind: Kind,
     pub answer: u64,
     pub handled: u64,
     pub used: u64,
@@ -18,7 +19,7 @@ pub struct Call {
 pub(crate) fn next(file: &mut impl Read) -> Call {
     let packed = input::word(file);
     Call {
-        step: packed % 256,
+        kind: Kind::of(packed % 256),
         answer: packed / 256 % 256,
         handled: packed / 65536 % 65536,
         used: packed / 4294967296 % 65536,
@@ -29,34 +30,28 @@ pub(crate) fn next(file: &mut impl Read) -> Call {
     }
 }
 
-// A step over several shards keeps its work on those before a refused one.
-pub(crate) fn is_batch(step: u64) -> bool {
-    (8 <= step) & (step <= 11)
-}
-
 // No answer of any step.
 const NO_SUCH_STEP: u64 = 255;
 
 pub(crate) fn make(call: Call, board: &mut [u64], draws: &[u64], results: &mut [u64; 2]) -> u64 {
-    let step = call.step;
     let shard = call.shard;
     let machine = call.machine;
-    match step {
-        1 => roster::roster_tick(board, results),
-        2 => roster::roster_admit_split(board, shard, results),
-        3 => roster::roster_admit_merge(board, shard, draws, results),
-        4 => roster::roster_mark_seat_ready(board, shard, machine, results),
-        5 => roster::roster_mark_quiet(board, shard, call.side, results),
-        6 => roster::roster_draw_cohort(board, shard, draws, results),
-        7 => roster::roster_lapse(board, shard, results),
-        8 => roster::roster_schedule_splits(board, draws, results),
-        9 => roster::roster_schedule_merges(board, results),
-        10 => roster::roster_cut_splits(board, results),
-        11 => roster::roster_cut_merges(board, results),
-        12 => roster::roster_leave(board, machine, draws, results),
-        13 => roster::roster_rotate(board, shard, machine, draws, results),
-        14 => roster::roster_resolve(board, results),
-        15 => roster::roster_time_out(board, results),
-        _ => NO_SUCH_STEP,
+    match call.kind {
+        Kind::Tick => roster::roster_tick(board, results),
+        Kind::AdmitSplit => roster::roster_admit_split(board, shard, results),
+        Kind::AdmitMerge => roster::roster_admit_merge(board, shard, draws, results),
+        Kind::MarkSeatReady => roster::roster_mark_seat_ready(board, shard, machine, results),
+        Kind::MarkQuiet => roster::roster_mark_quiet(board, shard, call.side, results),
+        Kind::DrawCohort => roster::roster_draw_cohort(board, shard, draws, results),
+        Kind::Lapse => roster::roster_lapse(board, shard, results),
+        Kind::ScheduleSplits => roster::roster_schedule_splits(board, draws, results),
+        Kind::ScheduleMerges => roster::roster_schedule_merges(board, results),
+        Kind::CutSplits => roster::roster_cut_splits(board, results),
+        Kind::CutMerges => roster::roster_cut_merges(board, results),
+        Kind::Leave => roster::roster_leave(board, machine, draws, results),
+        Kind::Rotate => roster::roster_rotate(board, shard, machine, draws, results),
+        Kind::Resolve => roster::roster_resolve(board, results),
+        Kind::TimeOut => roster::roster_time_out(board, results),
+        Kind::First | Kind::Read | Kind::Last => NO_SUCH_STEP,
     }
 }

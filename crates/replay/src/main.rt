@@ -3,6 +3,7 @@
 
 mod calls;
 mod input;
+mod kinds;
 mod series;
 mod sums;
 mod tally;
@@ -10,6 +11,7 @@ mod tally;
 use std::fs::File;
 use std::io;
 use std::io::Read;
+use tally::Tally;
 
 const FORM: u64 = 1;
 
@@ -20,11 +22,11 @@ fn follow_all(rt: &impl Print, file: &mut impl Read) -> io::Result<()> {
     if input::word(file) != FORM {
         return println!(rt; "calls.bin has another form");
     }
-    let mut tally = [0u64; tally::PLACES];
+    let mut tally = Tally::new();
     for _ in 0..input::word(file) % MOST_SERIES {
         series::follow(file, &mut tally);
     }
-    tally::print(rt, &tally)
+    tally.print(rt)
 }
 
 fn main(rt: HostRuntime) -> io::Result<()> {

@@ -1,12 +1,14 @@
 // A series of the recorded file: a starting snapshot, calls, and the snapshot after the last.
-ghost use Rattle.std.specs.Prelude.{◌≡◌, length};
-
 use crate::calls::Call;
-use crate::tally::PLACES;
-use crate::{calls, input, sums, tally};
+use crate::kinds::Kind;
+use crate::tally::Tally;
+use crate::{calls, input, sums};
+use rooms::Bytes;
 use std::io::Read;
 
 const WORDS: usize = 5861;
+
+const MOST_DRAWS: usize = 4096;
 
 // Numbers of the file are taken modulo these, so that any file comes to an end.
 const MOST_CALLS: u64 = 65536;
@@ -17,90 +19,71 @@ const MOST_BYTES: u64 = 65536;
 
 const NOT_WELL_FORMED: u64 = 1;
 
-// The code of a read, and the places of the first and the last snapshot.
-const READ: u64 = 16;
-
-const FIRST: u64 = 0;
-
-const LAST: u64 = 17;
-
-// Room for a board, filled with one number.
-fn board_room(fill: u64) -> [u64; WORDS]
-    ensures { 5861 ≡ length result }
-{
-    [fill; WORDS]
-}
-
-// Room for a snapshot.
-fn bytes_room() -> [u8; 65536]
-    ensures { 65536 ≡ length result }
-{
-    [0; 65536]
-}
-
-// Room for the draws of a call.
-fn draws_room() -> [u64; 4096]
-    ensures { 4096 ≡ length result }
-{
-    [0; 4096]
-}
-
-// The checksum of the board's snapshot; 0 where the words hold no well-formed board.
-fn sum_of(board: &[u64]) -> u64 {
-    let mut snapshot = bytes_room();
+// None where the words hold no well-formed board.
+fn snapshot_of(board: &[u64; WORDS]) -> Option<Bytes<65536>> {
+    let mut room = [0; 65536];
     let mut length: u64 = 0;
-    if roster::roster_write(board, &mut snapshot, &mut length) != 0 {
-        return 0;
+    if roster::roster_write(board, &mut room, &mut length) != 0 {
+        return None;
     }
-    let n = input::bytes_within(length, &snapshot);
-    sums::checksum(&snapshot[..n])
+    Some(Bytes::of(room, length as usize))
+}
+
+// The checksum of the board's snapshot; 0 where there is none.
+fn sum_of(board: &[u64; WORDS]) -> u64 {
+    match snapshot_of(board) {
+        Some(snapshot) => sums::checksum(snapshot.as_slice()),
+        None => 0,
+    }
 }
 
 // Whether the board's snapshot has these bytes.
-fn is_written_as(board: &[u64], bytes: &[u8]) -> bool {
-    let mut snapshot = bytes_room();
-    let mut length: u64 = 0;
-    if roster::roster_write(board, &mut snapshot, &mut length) != 0 {
-        return false;
+fn is_written_as(board: &[u64; WORDS], bytes: &[u8]) -> bool {
+    match snapshot_of(board) {
+        Some(snapshot) => snapshot.as_slice() == bytes,
+        None => false,
     }
-    let n = input::bytes_within(length, &snapshot);
-    &snapshot[..n] == bytes
+}
+
+// What a series starts from: a board's snapshot, or bytes that are none.
+#[derive(Clone, Copy)]
+struct Start<'a> {
+    bytes: &'a [u8],
+    is_board: bool,
 }
 
 // A snapshot is read, and written back; words with its structure that are no board's are laid out all the same.
-fn begins(start: &[u8], board: &mut [u64; WORDS], tally: &mut [u64; PLACES]) -> bool {
-    if roster::roster_read(start, board) == 0 {
-        tally::add(tally, FIRST, is_written_as(board, start));
-        return true;
+fn begins<'a>(bytes: &'a [u8], board: &mut [u64; WORDS], tally: &mut Tally) -> Start<'a> {
+    let is_board = roster::roster_read(bytes, board) == 0;
+    if is_board {
+        tally.add(Kind::First, is_written_as(board, bytes));
+    } else {
+        tally.pass_over(Kind::First);
+        unpacking::unpack_board(bytes, board);
     }
-    tally::pass_over(tally, FIRST);
-    unpacking::unpack_board(start, board);
-    false
+    Start { bytes, is_board }
 }
 
 // Reads the bytes into words that stay as they are where it refuses.
 fn reads_as(call: Call, bytes: &[u8], board: &[u64; WORDS]) -> bool {
-    let mut other = board_room(7);
+    let untouched = [7; WORDS];
+    let mut other = untouched;
     let answer = roster::roster_read(bytes, &mut other);
     if answer == 0 {
-        return (call.answer == 0) & sums::same_words(board, &other);
+        return call.answer == 0 && *board == other;
     }
-    let untouched = board_room(7);
-    (call.answer == answer) & sums::same_words(&untouched, &other)
+    call.answer == answer && untouched == other
 }
 
 // Reads the snapshot as it is: the board's, or the starting bytes where they are no board's.
-fn reads_again(call: Call, start: &[u8], good: bool, board: &[u64; WORDS]) -> bool {
-    if !good {
-        return reads_as(call, start, board);
+fn reads_again(call: Call, start: Start, board: &[u64; WORDS]) -> bool {
+    if !start.is_board {
+        return reads_as(call, start.bytes, board);
     }
-    let mut snapshot = bytes_room();
-    let mut length: u64 = 0;
-    if roster::roster_write(board, &mut snapshot, &mut length) != 0 {
-        return false;
+    match snapshot_of(board) {
+        Some(snapshot) => reads_as(call, snapshot.as_slice(), board),
+        None => false,
     }
-    let n = input::bytes_within(length, &snapshot);
-    reads_as(call, &snapshot[..n], board)
 }
 
 // Makes the call: whether its answer, its counts and the board are as recorded, a refusal's word for word.
@@ -108,84 +91,77 @@ fn makes_as(call: Call, draws: &[u64], board: &mut [u64; WORDS], sum: u64) -> bo
     let before = *board;
     let mut results = [0u64; 2];
     let answer = calls::make(call, board, draws, &mut results);
-    let told = (answer == call.answer) & (results[0] == call.handled) & (results[1] == call.used);
-    if (answer == 0) | (calls::is_batch(call.step) & (answer != NOT_WELL_FORMED)) {
-        return told & (sum_of(board) == sum);
+    let told = answer == call.answer && results[0] == call.handled && results[1] == call.used;
+    if answer == 0 || (call.kind.is_batch() && answer != NOT_WELL_FORMED) {
+        return told && sum_of(board) == sum;
     }
-    told & sums::same_words(&before, board)
+    told && before == *board
 }
 
 // One call, made while the board is the recorded one: whether it still is.
 fn follow_call(
     file: &mut impl Read,
-    start: &[u8],
-    good: bool,
+    start: Start,
     board: &mut [u64; WORDS],
     known: bool,
-    tally: &mut [u64; PLACES],
+    tally: &mut Tally,
 ) -> bool {
     let call = calls::next(file);
-    let mut draws = draws_room();
-    let n = input::words(file, call.draws, &mut draws);
+    let mut draws = [0; MOST_DRAWS];
+    let n = MOST_DRAWS.min(call.draws as usize);
+    input::fill(file, &mut draws[..n]);
     let sum = input::word(file);
     if !known {
-        tally::pass_over(tally, call.step);
+        tally.pass_over(call.kind);
         return false;
     }
-    let mut same = false;
-    if call.step == READ {
-        same = reads_again(call, start, good, board);
-    } else {
-        same = makes_as(call, &draws[..n], board, sum);
-    }
-    tally::add(tally, call.step, same);
+    let same = match call.kind {
+        Kind::Read => reads_again(call, start, board),
+        _ => makes_as(call, &draws[..n], board, sum),
+    };
+    tally.add(call.kind, same);
     same
 }
 
 fn follow_calls(
     file: &mut impl Read,
-    start: &[u8],
-    good: bool,
+    start: Start,
     board: &mut [u64; WORDS],
-    tally: &mut [u64; PLACES],
+    tally: &mut Tally,
 ) -> bool {
     let mut known = true;
     for _ in 0..input::word(file) % MOST_CALLS {
-        known = follow_call(file, start, good, board, known, tally);
+        known = follow_call(file, start, board, known, tally);
     }
     known
 }
 
-// The snapshot after the last call.
+// The snapshot after the last call: the board's, or the starting words where they are no board's.
 fn end(
     file: &mut impl Read,
-    start: &[u8],
-    good: bool,
+    words: &[u8],
+    start: Start,
     board: &[u64; WORDS],
     known: bool,
-    tally: &mut [u64; PLACES],
+    tally: &mut Tally,
 ) {
-    let mut last = bytes_room();
     let long = input::word(file) % MOST_WORDS * 8;
-    let n = input::bytes(file, long, &mut last);
+    let last = input::bytes(file, long);
     if !known {
-        tally::pass_over(tally, LAST);
-        return;
-    }
-    if good {
-        tally::add(tally, LAST, is_written_as(board, &last[..n]));
+        tally.pass_over(Kind::Last);
+    } else if start.is_board {
+        tally.add(Kind::Last, is_written_as(board, last.as_slice()));
     } else {
-        tally::add(tally, LAST, start == &last[..n]);
+        tally.add(Kind::Last, words == last.as_slice());
     }
 }
 
-pub(crate) fn follow(file: &mut impl Read, tally: &mut [u64; PLACES]) {
-    let mut board = board_room(0);
-    let mut start = bytes_room();
+pub(crate) fn follow(file: &mut impl Read, tally: &mut Tally) {
+    let mut board = [0; WORDS];
     let long = input::word(file) % MOST_BYTES;
-    let m = input::bytes(file, (long + 7) / 8 * 8, &mut start);
-    let n = input::bytes_within(long, &start);
-    let good = begins(&start[..n], &mut board, tally);
-    let known = follow_calls(file, &start[..n], good, &mut board, tally);
-    end(file, &start[..m], good, &board, known, tally);
+    let words = input::bytes(file, (long + 7) / 8 * 8);
+    let bytes = words.as_slice().get(..long as usize).unwrap_or(&[]);
+    let start = begins(bytes, &mut board, tally);
+    let known = follow_calls(file, start, &mut board, tally);
+    end(file, words.as_slice(), start, &board, known, tally);
 }

@@ -19,15 +19,16 @@ use Rattle.rules.proofs.Tests.{all_parts, all_joins}
 use Rattle.tables.specs.Rows.{pad, id_table}
 use Rattle.shifts.proofs.Parts.{Spot}
 use Rattle.tables.proofs.Tables.{table_length}
-use Rattle.tables.proofs.Ids.{id_at}
 use Rattle.board.specs.Layout.{seat_width, seats_at, left_at, right_at, reshape_width, reshapes_at, seat_table, reshape_head, reshape_row, encode}
 use Rattle.board.specs.Held.{roomy_reshape, Holds, no_reshape}
 use Rattle.board.specs.Leaves.{change_at}
 use Rattle.board.proofs.One.{bit_back}
 use Rattle.board.proofs.Widths.{head_wide}
-use Rattle.board.proofs.Sections.{reshapes, part_lent, part_back, part_first, part_word}
+use Rattle.board.proofs.Sections.{reshapes, part_lent, part_back, part_first}
 use Rattle.board.proofs.Fitting.{every_at, every_set, set_room, held_reshapes}
-use Rattle.reshapes.specs.Changes.{kind_of, with_left, with_right, at_terminal, newly_admitted}
+use Rattle.reshapes.specs.declared.Side.{Side}
+use Rattle.reshapes.specs.declared.Side.TheVariants.{Left, Right}
+use Rattle.reshapes.specs.Changes.{kind_of, with_left, with_right, half_of, with_half, quiet_of, with_quiet_on, quiet_at, half_at, at_terminal, newly_admitted}
 
 -- ---- what the words say
 
@@ -92,6 +93,14 @@ module _ (e : Entry Reshape) where
   unfolding reshape_row reshape_head reshape_words
   right_quieted = refl
 
+  pub quiet_is : (side : Side) → eqb (get_or (reshape_row e) (quiet_at side) 0) 1 ≡ quiet_of side e.val
+  quiet_is Left = quiet_left_is
+  quiet_is Right = quiet_right_is
+
+  pub quieted : (side : Side) → set (reshape_row e) (quiet_at side) 1 ≡ reshape_row (entry e.key (with_quiet_on side e.val))
+  quieted Left = left_quieted
+  quieted Right = right_quieted
+
   pub drain_stored : (t : List ℕ) (by : ℕ) → t ≡ reshape_row e → set (set t 3 1) 4 by ≡ reshape_row (entry e.key (with_drain_by by e.val))
   unfolding reshape_row reshape_head reshape_words flag_of value_of
   drain_stored t by q = ap (λ (l : List ℕ). set (set l 3 1) 4 by) q
@@ -141,6 +150,28 @@ module _ (e : Entry Reshape) where
     size = simp length-append (omega (arith, head_wide e, table_length seat_words seat_width most_seats e.val.seats, table_length id_words 1 most_half e.val.left));
   }
 
+  pub half_spot : (side : Side) → Spot (id_table most_half) (λ l. reshape_row (entry e.key (with_half side (λ _. l) e.val))) (half_at side)
+  half_spot Left = left_spot
+  half_spot Right = right_spot
+
+-- ---- a side's part of a reshape
+
+pub half_same : (side : Side) (r : Reshape) → with_half side (λ _. half_of side r) r ≡ r
+half_same Left r = refl
+half_same Right r = refl
+
+pub half_made : (side : Side) (f : List Id → List Id) (r : Reshape) → with_half side (λ _. f (half_of side r)) r ≡ with_half side f r
+half_made Left f r = refl
+half_made Right f r = refl
+
+pub quiet_below : (side : Side) → quiet_at side < reshape_width
+quiet_below Left = omega arith
+quiet_below Right = omega arith
+
+pub half_within : (side : Side) → half_at side + (1 + most_half) ≤ reshape_width
+half_within Left = omega arith
+half_within Right = omega arith
+
 -- ---- the lists of the reshape at i
 
 module _ (e : Entry Reshape) where
@@ -168,6 +199,10 @@ module _ (ws : List ℕ) (b : Board) (h : Holds ws b) (i : ℕ) (l : i < length 
   pub right_room : length row.val.right ≤ most_half
   right_room = (rooms row row_roomy).2
 
+  pub half_room : (side : Side) → length (half_of side row.val) ≤ most_half
+  half_room Left = left_room
+  half_room Right = right_room
+
   -- the words of the board with another reshape at i
   pub changed : (f : Reshape → Reshape) (vs : List ℕ) → vs ≡ encode (on_reshapes (change_at no_reshape i f) b) → roomy_reshape (entry row.key (f row.val)) ≡ true
       → Holds vs (on_reshapes (change_at no_reshape i f) b)
@@ -194,9 +229,6 @@ module _ (ws : List ℕ) (b : Board) (h : Holds ws b) (i : ℕ) (l : i < length 
     list_first : 0 < n → get_or ws (at c) 0 ≡ get_or (inner x) 0 0
     list_first m = part_first reshapes ws b h i no_reshape l (λ y. entry row.key (g y)) t x same_row n wide m
 
-    list_word : (j : ℕ) → j < n → get_or ws (at c + j) 0 ≡ get_or (inner x) j 0
-    list_word j m = part_word reshapes ws b h i no_reshape l (λ y. entry row.key (g y)) t x same_row n wide j m
-
     list_back : (y : List B) (p : List ℕ) → p ≡ inner y → put_mid (at c) (at c + n - at c) ws p ≡ encode (on_reshapes (λ _. set b.reshapes i (entry row.key (g y))) b)
     list_back y p e = part_back reshapes ws b h i no_reshape l (λ y. entry row.key (g y)) t x same_row n wide y p e
 
@@ -216,44 +248,29 @@ module _ (ws : List ℕ) (b : Board) (h : Holds ws b) (i : ℕ) (l : i < length 
       changed (with_seats f) _ (list_back (λ s. with_seats (λ _. s) row.val) (seats_spot row) row.val.seats refl (1 + most_seats * seat_width) seats_wide (f row.val.seats) p e)
       (roomy (entry row.key (with_seats f row.val)) m left_room right_room)
 
-  -- the left half
+  -- a half
   half_wide : (m : List Id) → length (id_table most_half m) ≡ 1 + most_half
   half_wide m = table_length id_words 1 most_half m
 
-  pub left_count : get_or ws (at left_at) 0 ≡ length row.val.left
-  left_count = list_first (λ m. with_left (λ _. m) row.val) (left_spot row) row.val.left refl (1 + most_half) (half_wide row.val.left) (omega arith)
+  pub half_lent : (side : Side) → take (at (half_at side) + (1 + most_half) - at (half_at side)) (drop (at (half_at side)) ws) ≡ id_table most_half (half_of side row.val)
+  half_lent side = list_lent (λ m. with_half side (λ _. m) row.val) (half_spot row side) (half_of side row.val) (half_same side row.val) (1 + most_half) (half_wide (half_of side row.val))
 
-  pub left_is : (k : ℕ) → k < length row.val.left → get_or ws (at left_at + (1 + k)) 0 ≡ get_or row.val.left k 0
-  left_is k m =
-      list_word (λ x. with_left (λ _. x) row.val) (left_spot row) row.val.left refl (1 + most_half) (half_wide row.val.left) (1 + k) (omega (arith, left_room))
-      ∙ id_at most_half row.val.left _ refl k m left_room
+  half_roomy : (side : Side) (f : List Id → List Id) → length (f (half_of side row.val)) ≤ most_half → roomy_reshape (entry row.key (with_half side f row.val)) ≡ true
+  half_roomy Left f m = roomy (entry row.key (with_left f row.val)) seats_room m right_room
+  half_roomy Right f m = roomy (entry row.key (with_right f row.val)) seats_room left_room m
 
-  pub left_lent : take (at left_at + (1 + most_half) - at left_at) (drop (at left_at) ws) ≡ id_table most_half row.val.left
-  left_lent = list_lent (λ m. with_left (λ _. m) row.val) (left_spot row) row.val.left refl (1 + most_half) (half_wide row.val.left)
+  pub half_back : (side : Side) (f : List Id → List Id) (p : List ℕ) → p ≡ id_table most_half (f (half_of side row.val)) → length (f (half_of side row.val)) ≤ most_half
+      → Holds (put_mid (at (half_at side)) (at (half_at side) + (1 + most_half) - at (half_at side)) ws p) (on_reshapes (change_at no_reshape i (with_half side f)) b)
+  half_back side f p e m =
+      changed (with_half side f) _
+      (list_back (λ x. with_half side (λ _. x) row.val) (half_spot row side) (half_of side row.val) (half_same side row.val) (1 + most_half) (half_wide (half_of side row.val)) (f (half_of side row.val)) p e
+      ∙ ap (λ (q : Reshape). encode (on_reshapes (λ _. set b.reshapes i (entry row.key q)) b)) (half_made side f row.val))
+      (half_roomy side f m)
 
-  pub left_back : (f : List Id → List Id) (p : List ℕ) → p ≡ id_table most_half (f row.val.left) → length (f row.val.left) ≤ most_half
-      → Holds (put_mid (at left_at) (at left_at + (1 + most_half) - at left_at) ws p) (on_reshapes (change_at no_reshape i (with_left f)) b)
-  left_back f p e m =
-      changed (with_left f) _ (list_back (λ x. with_left (λ _. x) row.val) (left_spot row) row.val.left refl (1 + most_half) (half_wide row.val.left) (f row.val.left) p e)
-      (roomy (entry row.key (with_left f row.val)) seats_room m right_room)
-
-  -- the right half
-  pub right_count : get_or ws (at right_at) 0 ≡ length row.val.right
-  right_count = list_first (λ m. with_right (λ _. m) row.val) (right_spot row) row.val.right refl (1 + most_half) (half_wide row.val.right) (omega arith)
-
-  pub right_is : (k : ℕ) → k < length row.val.right → get_or ws (at right_at + (1 + k)) 0 ≡ get_or row.val.right k 0
-  right_is k m =
-      list_word (λ x. with_right (λ _. x) row.val) (right_spot row) row.val.right refl (1 + most_half) (half_wide row.val.right) (1 + k) (omega (arith, right_room))
-      ∙ id_at most_half row.val.right _ refl k m right_room
-
-  pub right_lent : take (at right_at + (1 + most_half) - at right_at) (drop (at right_at) ws) ≡ id_table most_half row.val.right
-  right_lent = list_lent (λ m. with_right (λ _. m) row.val) (right_spot row) row.val.right refl (1 + most_half) (half_wide row.val.right)
-
-  pub right_back : (f : List Id → List Id) (p : List ℕ) → p ≡ id_table most_half (f row.val.right) → length (f row.val.right) ≤ most_half
-      → Holds (put_mid (at right_at) (at right_at + (1 + most_half) - at right_at) ws p) (on_reshapes (change_at no_reshape i (with_right f)) b)
-  right_back f p e m =
-      changed (with_right f) _ (list_back (λ x. with_right (λ _. x) row.val) (right_spot row) row.val.right refl (1 + most_half) (half_wide row.val.right) (f row.val.right) p e)
-      (roomy (entry row.key (with_right f row.val)) seats_room left_room m)
+  -- the side made quiet
+  pub quiet_changed : (side : Side) (vs : List ℕ) → vs ≡ encode (on_reshapes (change_at no_reshape i (with_quiet_on side)) b) → Holds vs (on_reshapes (change_at no_reshape i (with_quiet_on side)) b)
+  quiet_changed Left vs e = field_changed (with_quiet_on Left) vs e refl refl refl
+  quiet_changed Right vs e = field_changed (with_quiet_on Right) vs e refl refl refl
 
 pub roomy_none : roomy_reshape no_reshape ≡ true
 roomy_none = roomy no_reshape (omega arith) (omega arith) (omega arith)

@@ -1,18 +1,19 @@
 // A reshape's first nine words, and the table's rows.
-ghost use Rattle.std.specs.Prelude.{◌≡◌, true, ◌<◌, ◌≤◌, length, get_or, set};
+ghost use Rattle.std.specs.Prelude.{◌≡◌, ◌<◌, ◌≤◌, length, get_or, set};
 ghost use Rattle.rules.specs.Table.{Entry, entry, is_some};
 ghost use Rattle.rules.specs.Board.{Board, Reshape, merge, most_reshapes, on_reshapes};
-ghost use Rattle.rules.specs.Moves.{is_kind, with_drain_by, with_quiet};
+ghost use Rattle.rules.specs.Moves.{is_kind, with_drain_by};
 ghost use Rattle.rules.specs.Snapshot.{value_of};
 ghost use Rattle.tables.specs.Rows.{Rising, key_of, place_of, insert_at, remove_at};
 ghost use Rattle.board.specs.Layout.{board_size, reshape_width, reshape_row};
 ghost use Rattle.board.specs.Held.{Holds, no_reshape};
 ghost use Rattle.board.specs.Leaves.{change_at};
-ghost use Rattle.reshapes.specs.Changes.{kind_of, at_terminal, newly_admitted};
+ghost use Rattle.reshapes.specs.Changes.{kind_of, quiet_of, with_quiet_on, at_terminal, newly_admitted};
 
+use super::Side;
 use board::layout::{
-    ADMITTED, BOARD_SIZE, DRAIN_BY, DRAIN_FLAG, KIND, MOST_RESHAPES, QUIET_LEFT, QUIET_RIGHT,
-    RESHAPE_WIDTH, RESHAPES_AT, SCHEDULED_FLAG, TERMINAL,
+    ADMITTED, BOARD_SIZE, DRAIN_BY, DRAIN_FLAG, KIND, MOST_RESHAPES, RESHAPE_WIDTH, RESHAPES_AT,
+    SCHEDULED_FLAG, TERMINAL,
 };
 use types::{Epoch, ShardId};
 
@@ -87,40 +88,23 @@ pub fn terminal_at(ws: &[u64], i: usize) -> Epoch
     Epoch(ws[a + TERMINAL])
 }
 
-pub fn is_quiet_left(ws: &[u64], i: usize) -> bool
+pub fn is_quiet(ws: &[u64], i: usize, side: Side) -> bool
     requires { (length ws.now ≡ board_size) × (i < most_reshapes) }
-    ensures { (b : Board) → Holds ws.now b → i < length b.reshapes → result ≡ (get_or b.reshapes i no_reshape).val.quiet_left }
+    ensures { (b : Board) → Holds ws.now b → i < length b.reshapes → result ≡ quiet_of side (get_or b.reshapes i no_reshape).val }
 {
     let a = RESHAPES_AT + 1 + i * RESHAPE_WIDTH;
-    ws[a + QUIET_LEFT] == 1
-}
-
-pub fn is_quiet_right(ws: &[u64], i: usize) -> bool
-    requires { (length ws.now ≡ board_size) × (i < most_reshapes) }
-    ensures { (b : Board) → Holds ws.now b → i < length b.reshapes → result ≡ (get_or b.reshapes i no_reshape).val.quiet_right }
-{
-    let a = RESHAPES_AT + 1 + i * RESHAPE_WIDTH;
-    ws[a + QUIET_RIGHT] == 1
+    ws[a + side.quiet_at()] == 1
 }
 
 // ---- fields written
 
-pub fn set_quiet_left(ws: &mut [u64], i: usize)
+pub fn set_quiet(ws: &mut [u64], i: usize, side: Side)
     requires { (length ws.old ≡ board_size) × (i < most_reshapes) }
     ensures { (b : Board) → Holds ws.old b → i < length b.reshapes →
-        Holds ws.new (on_reshapes (change_at no_reshape i (with_quiet (λ q. true) (λ q. q))) b) }
+        Holds ws.new (on_reshapes (change_at no_reshape i (with_quiet_on side)) b) }
 {
     let a = RESHAPES_AT + 1 + i * RESHAPE_WIDTH;
-    ws[a + QUIET_LEFT] = 1;
-}
-
-pub fn set_quiet_right(ws: &mut [u64], i: usize)
-    requires { (length ws.old ≡ board_size) × (i < most_reshapes) }
-    ensures { (b : Board) → Holds ws.old b → i < length b.reshapes →
-        Holds ws.new (on_reshapes (change_at no_reshape i (with_quiet (λ q. q) (λ q. true))) b) }
-{
-    let a = RESHAPES_AT + 1 + i * RESHAPE_WIDTH;
-    ws[a + QUIET_RIGHT] = 1;
+    ws[a + side.quiet_at()] = 1;
 }
 
 fn store_drain(t: &mut [u64], by: Epoch)
@@ -144,7 +128,7 @@ fn store_new(t: &mut [u64], target: ShardId, merging: bool, admitted: Epoch)
     ensures { t.old ≡ reshape_row no_reshape → t.new ≡ reshape_row (entry target.0 (newly_admitted (kind_of merging) admitted.0)) }
 {
     t[0] = target.0;
-    t[KIND] = board::machines::bit(merging);
+    t[KIND] = u64::from(merging);
     t[ADMITTED] = admitted.0;
 }
 

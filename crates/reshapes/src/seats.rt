@@ -1,11 +1,11 @@
 // A reshape's seats: a table in its row, by rising id.
-ghost use Rattle.std.specs.Prelude.{◌≡◌, [], ◌+◌, ◌*◌, ◌<◌, ◌≤◌, length, get_or, set};
+ghost use Rattle.std.specs.Prelude.{◌≡◌, [], ◌+◌, ◌*◌, ◌<◌, ◌≤◌, length, get_or, set, IfSome};
 ghost use Rattle.rules.specs.Table.{Entry, Table};
 ghost use Rattle.rules.specs.Board as rules;
 ghost use Rattle.rules.specs.Board.{Board, most_reshapes, most_seats, on_reshapes};
 ghost use Rattle.rules.specs.Moves.{with_seats};
 ghost use Rattle.rules.specs.Snapshot.{seat_words};
-ghost use Rattle.tables.specs.Rows.{Rising, key_of, place_of, row_of, insert_at, remove_at};
+ghost use Rattle.tables.specs.Rows.{Rising, key_of, place_of, find_row, insert_at, remove_at};
 ghost use Rattle.board.specs.Layout.{board_size, seat_width, seat_table};
 ghost use Rattle.board.specs.Held.{Holds, no_reshape, no_seat};
 ghost use Rattle.board.specs.Leaves.{change_at};
@@ -34,16 +34,11 @@ fn load(t: &[u64]) -> Seat
     }
 }
 
-fn store(t: &mut [u64], q: Seat)
-    requires { length t.old ≡ seat_width }
-    ensures { t.new ≡ seat_words (seat_entry q) }
+#[tactic(auto, using(board::proofs::Bits::bit_is), unfolding(rules::specs::Snapshot::seat_words))]
+fn row(q: Seat) -> [u64; SEAT_WIDTH]
+    ensures { result ≡ seat_words (seat_entry q) }
 {
-    let id = q.id;
-    let child = q.child;
-    let ready = q.ready;
-    t[0] = id.0;
-    t[1] = child.0;
-    t[2] = board::machines::bit(ready);
+    [q.id.0, q.child.0, u64::from(q.ready)]
 }
 
 fn load_from(t: &[u64], k: usize) -> Seat
@@ -61,7 +56,7 @@ fn put_in(t: &mut [u64], k: usize, q: Seat)
 {
     let a = 1 + k * SEAT_WIDTH;
     let e = a + SEAT_WIDTH;
-    store(&mut t[a..e], q);
+    t[a..e].copy_from_slice(&row(q));
 }
 
 fn open_in(t: &mut [u64], k: usize, q: Seat)
@@ -103,15 +98,16 @@ pub fn place_of(ws: &[u64], i: usize, id: ValidatorId) -> usize
     tables::place_of(&ws[a..e], SEAT_WIDTH, MOST_SEATS, id.0)
 }
 
-// The row of an id's seat; 32, past every row, where it has none.
-pub fn row_of(ws: &[u64], i: usize, id: ValidatorId) -> usize
+// The row of an id's seat, where it has one.
+pub fn find(ws: &[u64], i: usize, id: ValidatorId) -> Option<usize>
     requires { (length ws.now ≡ board_size) × (i < most_reshapes) }
-    ensures { (b : Board) → Holds ws.now b → i < length b.reshapes → Rising key_of (get_or b.reshapes i no_reshape).val.seats →
-        result ≡ row_of key_of most_seats id.0 (get_or b.reshapes i no_reshape).val.seats }
+    ensures room { IfSome result (λ k. k < most_seats) }
+    ensures found { (b : Board) → Holds ws.now b → i < length b.reshapes → Rising key_of (get_or b.reshapes i no_reshape).val.seats →
+        result ≡ find_row key_of id.0 (get_or b.reshapes i no_reshape).val.seats }
 {
     let a = RESHAPES_AT + 1 + i * RESHAPE_WIDTH + SEATS_AT;
     let e = a + SEATS_SIZE;
-    tables::row_of(&ws[a..e], SEAT_WIDTH, MOST_SEATS, id.0)
+    tables::find_row(&ws[a..e], SEAT_WIDTH, MOST_SEATS, id.0)
 }
 
 pub fn put(ws: &mut [u64], i: usize, k: usize, q: Seat)

@@ -1,5 +1,5 @@
 -- One rotation: whether it is resolved, and how it is closed, as the code has it.
-use Prim.Native.Nat.{ℕ, ◌+◌, ◌-◌, ◌≤◌, ◌<◌}
+use Prim.Native.Nat.{ℕ, ◌+◌, ◌-◌, ◌<◌}
 use mathlib.Core.Path.{◌≡◌, refl, sym, ◌∙◌}
 use mathlib.Core.List.{List}
 use mathlib.Core.Option.{none}
@@ -51,9 +51,6 @@ module _ (s : Shard) (b : Board) where
     seats_at_lem : leb m (size_of b + o) ≡ has_seats_free s b
     unfolding has_seats_free
     seats_at_lem = rw (me, oe) (sym (holds_at_lem s _ b.committees _ (at_is b.committees (committees_rise b ok) s j no_committee l e)))
-
-    pub seats_few : m ≤ o → true ≡ has_seats_free s b
-    seats_few h = sym (of_le m (size_of b + o) (omega arith)) ∙ seats_at_lem
 
     pub seats_many : (z : ℕ) → z ≡ size_of b → leb (m - o) z ≡ has_seats_free s b
     seats_many z ze = sum_or_rest m o z ∙ rw ze seats_at_lem

@@ -5,13 +5,12 @@ use mathlib.Core.List.{List, [], ◌∷◌, ◌++◌, append_assoc}
 use mathlib.Core.Bool.{Bool, true, false}
 use native.Mathlib.Omega.{arith}
 use native.Mathlib.Numerals.{add-one}
-use lib.Dec.{eqb}
 use lib.ListN.{length, get_or, drop, length-append, drop_of_length-le}
 use lib.Seq.{drop-cons, take_at, drop-append-add, get_or_at}
 use Rattle.types.specs.Places.{is_seated_on}
 use Rattle.types.specs.declared.Answer.TheVariants.{Done}
 use Rattle.types.specs.declared.Outcome.{Outcome}
-use Rattle.rules.specs.Lists.{bit_of, keep}
+use Rattle.rules.specs.Lists.{keep}
 use Rattle.rules.specs.Board.{Rotation, Board, on_rotations}
 use Rattle.rules.specs.WellFormed.{well_formed}
 use Rattle.rules.specs.Moves.{place, quit, take_off, for_all, pooled_from, drop_first}
@@ -40,11 +39,6 @@ module _ {A : Type 0} (f : A → Bool) (l : List A) (i : ℕ) (d : A) (h : i < l
 
 removed_at : {A : Type 0} (p : List A) (y : A) (q : List A) (n : ℕ) → length p ≡ n → remove_at (p ++ y ∷ q) n ≡ p ++ q
 removed_at p y q n e = rw (← e, ← add-one (length p), drop-append-add p (y ∷ q) 1) (ap (λ (k : List _). k ++ q) (take_at p (y ∷ q) (length p) refl))
-
--- a mark says what it was made of
-pub mark_is : (m : ℕ) (c : Bool) → m ≡ bit_of c → eqb m 1 ≡ c
-mark_is m true e = rw e
-mark_is m false e = rw e
 
 -- ---- a closing changes no other rotation
 

@@ -12,8 +12,8 @@ ghost use Rattle.board.specs.Held.{Holds, no_rotation};
 ghost use Rattle.steps.specs.Inner.{Steps};
 ghost use Rattle.resolving.specs.Walked.{Marked, Turned};
 
-use board::layout::MOST_COMMITTEES;
-use board::{committees, machines, settings};
+use board::layout::MOST_ROTATIONS;
+use board::{committees, settings};
 use committee::reads;
 use committee::reads::Counted;
 use moves::Exit;
@@ -34,17 +34,15 @@ fn is_resolved(board: &[u64], i: usize) -> bool
     seated & ready
 }
 
-// A 1 for each row whose rotation is resolved.
-fn marks_of(board: &[u64]) -> [u64; 48]
+// Whether the rotation of each row is resolved.
+fn marks_of(board: &[u64]) -> [bool; MOST_ROTATIONS]
     requires { length board.now ≡ board_size }
     ensures { (b : Board) → Holds board.now b → well_formed b ≡ true → Marked b result }
 {
     let n = rotations::rows(board);
-    let mut marks = [0u64; 48];
-    let mut i: usize = 0;
-    while i < n {
-        marks[i] = machines::bit(is_resolved(board, i));
-        i += 1;
+    let mut marks = [false; MOST_ROTATIONS];
+    for i in 0..n {
+        marks[i] = is_resolved(board, i);
     }
     marks
 }
@@ -56,16 +54,12 @@ fn has_seats_free(board: &[u64], shard: ShardId) -> bool
     requires { length board.now ≡ board_size }
     ensures { (b : Board) → Holds board.now b → well_formed b ≡ true → result ≡ has_seats_free shard.0 b }
 {
-    let j = rows::committee_row(board, shard);
-    if MOST_COMMITTEES <= j {
+    let Some(j) = rows::find_committee(board, shard) else {
         return false;
-    }
+    };
     let members = committees::member_count(board, j);
     let open = reads::rotations_on(board, Counted::Open, shard);
-    if members <= open {
-        return true;
-    }
-    (members - open) as u64 <= settings::shard_size(board)
+    members.saturating_sub(open) as u64 <= settings::shard_size(board)
 }
 
 fn retire(board: &mut [u64], shard: ShardId, victim: ValidatorId)
@@ -75,7 +69,7 @@ fn retire(board: &mut [u64], shard: ShardId, victim: ValidatorId)
     if has_seats_free(board, shard) {
         return;
     }
-    moves::take_off(board, Exit::FromSeat, shard, victim);
+    moves::take_off(board, Exit::FromSeat(shard), shard, victim);
 }
 
 // The rotation at row i goes, then its victim.
@@ -105,17 +99,15 @@ fn turn_at(board: &mut [u64], i: usize, marked: bool) -> usize
 }
 
 // Those marked are closed; how many.
-fn close_marked(board: &mut [u64], marks: [u64; 48]) -> usize
+fn close_marked(board: &mut [u64], marks: [bool; MOST_ROTATIONS]) -> usize
     requires { length board.old ≡ board_size }
     ensures { (b : Board) → Holds board.old b → well_formed b ≡ true → Marked b marks →
         (result ≡ length (resolved b)) × Holds board.new (for_all rules.close (resolved b) b) }
 {
     let n = rotations::rows(board);
     let mut row: usize = 0;
-    let mut i: usize = 0;
-    while i < n {
-        row = turn_at(board, row, marks[i] == 1);
-        i += 1;
+    for i in 0..n {
+        row = turn_at(board, row, marks[i]);
     }
     n - row
 }

@@ -1,32 +1,26 @@
 -- From the check's answer to an exported step's record; once, for every step.
-use mathlib.Core.Path.{◌≡◌, refl}
+use mathlib.Core.Path.{◌≡◌}
 use mathlib.Core.List.{List, [], ◌∷◌}
 use mathlib.Core.Bool.{Bool, true, false, not}
 use Prim.Native.Nat.{ℕ}
-use lib.ListN.{length}
 use borrow.Author.Tests.{not-true, not-false}
 use Rattle.types.specs.Answers.{number_of}
-use Rattle.types.specs.declared.Answer.TheVariants.{NotWellFormed}
 use Rattle.types.specs.declared.Outcome.{Outcome}
 use Rattle.rules.specs.Board.{Board}
 use Rattle.rules.specs.Turns.{Result}
-use Rattle.board.specs.Layout.{board_size}
 use Rattle.board.specs.Permitted.{not_well_formed}
 use Rattle.wellformed.specs.Tells.{Tells}
 use Rattle.wellformed.proofs.Told.{not_held}
 use Rattle.steps.specs.Inner.{Steps}
-use Rattle.steps.proofs.Public.{held_wide, step_answers, step_refuses}
+use Rattle.steps.proofs.Public.{step_answers, step_refuses}
 use Rattle.roster.specs.Exported.{ExportedStep}
 
 module _ {before : List ℕ} {good : Bool} (t : Tells before good) where
-  -- what an inner form requires, once the check said yes
-  pub asked_wide : not good ≡ false → length before ≡ board_size
-  asked_wide e = held_wide before (t.yes (not-false good e))
-
   -- the check said no, and nothing was done
-  pub export_refuses : {step : Board → Result} {counts : List ℕ} {number : ℕ} → not good ≡ true → (number ≡ number_of NotWellFormed) × (counts ≡ 0 ∷ 0 ∷ []) → ExportedStep step before before number counts
-  export_refuses {step} e r =
-      record { outcome = not_well_formed; permitted = step_refuses step before not_well_formed (not_held before good t (not-true good e)) refl; answer = r.0; counts = r.1 }
+  pub export_refuses : {step : Board → Result} {counts : List ℕ} {number : ℕ} {told : Outcome} → not good ≡ true → told ≡ not_well_formed
+      → (number ≡ number_of told.answer) × (counts ≡ told.handled ∷ told.draws_used ∷ []) → ExportedStep step before before number counts
+  export_refuses {step} {told = told} e f r =
+      record { outcome = told; permitted = step_refuses step before told (not_held before good t (not-true good e)) f; answer = r.0; counts = r.1 }
 
   -- the check said yes, and the inner form did the step
   pub export_answers : {step : Board → Result} {after counts : List ℕ} {number : ℕ} {told : Outcome} → not good ≡ false → Steps step before after told

@@ -6,6 +6,7 @@ use Rattle.types.specs.declared.Outcome.{Outcome}
 use Rattle.rules.specs.Board.{Board}
 use Rattle.rules.specs.Turns.{Result}
 use Rattle.board.specs.Permitted.{PermittedStep}
+use Rattle.steps.specs.Inner.{Steps}
 use Rattle.snapshot.specs.Written.{Written}
 use Rattle.snapshot.specs.ReadAs.{ReadAs}
 
@@ -15,6 +16,10 @@ pub record ExportedStep (step : Board → Result) (before after : List ℕ) (num
   pub permitted : PermittedStep step before after outcome
   pub answer : number ≡ number_of outcome.answer
   pub counts : results ≡ outcome.handled ∷ outcome.draws_used ∷ []
+
+-- all that a call may give and leave is what the step may
+abbrev pub Makes : (Board → Result) → List ℕ → (Outcome → List ℕ → Type 0) → Type 0
+Makes step before Gives = (told : Outcome) (after : List ℕ) → Gives told after → Steps step before after told
 
 -- a check: 1 exactly if the words are good, else 0
 pub record ExportedCheck (Good : List ℕ → Type 0) (ws : List ℕ) (number : ℕ) : Type 0 where

@@ -1,4 +1,4 @@
-// The exports for C: each is the function of its name in the library, by C's call.
+// The exports for C: each is the function of its name in the library, by C's call. Each is written out, since C links it by its own name.
 #![tactic(auto)]
 
 ghost use Rattle.std.specs.Prelude.{◌≡◌, [], ◌∷◌};

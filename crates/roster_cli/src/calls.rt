@@ -1,29 +1,8 @@
-// The export that makes each step, by its number; apart by what they take, since the prover takes many short choices more lightly
-// than one long one.
-
-fn make_plain(step: u64, board: &mut [u64], results: &mut [u64; 2]) -> u64 {
-    match step {
-        1 => roster::roster_tick(board, results),
-        9 => roster::roster_schedule_merges(board, results),
-        10 => roster::roster_cut_splits(board, results),
-        11 => roster::roster_cut_merges(board, results),
-        14 => roster::roster_resolve(board, results),
-        _ => roster::roster_time_out(board, results),
-    }
-}
-
-fn make_with(step: u64, first: u64, second: u64, board: &mut [u64], results: &mut [u64; 2]) -> u64 {
-    match step {
-        2 => roster::roster_admit_split(board, first, results),
-        4 => roster::roster_mark_seat_ready(board, first, second, results),
-        5 => roster::roster_mark_quiet(board, first, second, results),
-        7 => roster::roster_lapse(board, first, results),
-        _ => make_plain(step, board, results),
-    }
-}
+// The export that makes each step.
+use step_names::Step;
 
 pub(crate) fn make(
-    step: u64,
+    step: Step,
     first: u64,
     second: u64,
     board: &mut [u64],
@@ -31,11 +10,20 @@ pub(crate) fn make(
     results: &mut [u64; 2],
 ) -> u64 {
     match step {
-        3 => roster::roster_admit_merge(board, first, draws, results),
-        6 => roster::roster_draw_cohort(board, first, draws, results),
-        8 => roster::roster_schedule_splits(board, draws, results),
-        12 => roster::roster_leave(board, first, draws, results),
-        13 => roster::roster_rotate(board, first, second, draws, results),
-        _ => make_with(step, first, second, board, results),
+        Step::Tick => roster::roster_tick(board, results),
+        Step::AdmitSplit => roster::roster_admit_split(board, first, results),
+        Step::AdmitMerge => roster::roster_admit_merge(board, first, draws, results),
+        Step::MarkSeatReady => roster::roster_mark_seat_ready(board, first, second, results),
+        Step::MarkQuiet => roster::roster_mark_quiet(board, first, second, results),
+        Step::DrawCohort => roster::roster_draw_cohort(board, first, draws, results),
+        Step::Lapse => roster::roster_lapse(board, first, results),
+        Step::ScheduleSplits => roster::roster_schedule_splits(board, draws, results),
+        Step::ScheduleMerges => roster::roster_schedule_merges(board, results),
+        Step::CutSplits => roster::roster_cut_splits(board, results),
+        Step::CutMerges => roster::roster_cut_merges(board, results),
+        Step::Leave => roster::roster_leave(board, first, draws, results),
+        Step::Rotate => roster::roster_rotate(board, first, second, draws, results),
+        Step::Resolve => roster::roster_resolve(board, results),
+        Step::TimeOut => roster::roster_time_out(board, results),
     }
 }

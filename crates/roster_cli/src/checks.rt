@@ -1,6 +1,7 @@
 // `check`: the seat check, and each row that breaks a clause of it.
+use crate::failure::Failure;
 use crate::files::WORDS;
-use crate::say::{WIDTH, end, text};
+use crate::say::{WIDTH, end};
 use crate::{args, facts, files};
 use board::layout::{
     MOST_COMMITTEES, MOST_MACHINES, MOST_MEMBERS, MOST_RESHAPES, MOST_ROTATIONS, MOST_SEATS,
@@ -25,7 +26,7 @@ fn target(board: &[u64; WORDS], i: usize) -> ShardId {
 
 fn tell_place(rt: &impl Print, board: &[u64; WORDS], id: ValidatorId) -> io::Result<()> {
     if !facts::has_record(board, id) {
-        return text(rt, b"    it has no record\n");
+        return println!(rt; "    it has no record");
     }
     let mut line = [0u8; WIDTH];
     let a = put_text(&mut line, 0, b"    it is ");
@@ -38,10 +39,9 @@ fn tell_machine(
     fault: MachineFault,
     board: &[u64; WORDS],
     id: ValidatorId,
-    shard: ShardId,
 ) -> io::Result<()> {
     let mut line = [0u8; WIDTH];
-    let a = fault_lines::put_machine_fault(&mut line, 0, fault, id, shard);
+    let a = fault_lines::put_machine_fault(&mut line, 0, fault, id);
     end(rt, &line, a)?;
     tell_place(rt, board, id)
 }
@@ -55,7 +55,7 @@ fn tell_member(rt: &impl Print, board: &[u64; WORDS], j: usize, k: usize) -> io:
     }
     let id = committees::member_at(board, j, k);
     let shard = committees::shard_at(board, j);
-    tell_machine(rt, MachineFault::StrayMember, board, id, shard)
+    tell_machine(rt, MachineFault::StrayMember(shard), board, id)
 }
 
 fn tell_seat(rt: &impl Print, board: &[u64; WORDS], i: usize, k: usize) -> io::Result<()> {
@@ -66,27 +66,21 @@ fn tell_seat(rt: &impl Print, board: &[u64; WORDS], i: usize, k: usize) -> io::R
         return Ok(());
     }
     let seat = cohort::at(board, i, k);
-    tell_machine(
-        rt,
-        MachineFault::AbsentSeat,
-        board,
-        seat.id,
-        target(board, i),
-    )
+    let fault = MachineFault::AbsentSeat(target(board, i));
+    tell_machine(rt, fault, board, seat.id)
 }
 
 fn tell_record(
     rt: &impl Print,
     fault: MachineFault,
     board: &[u64; WORDS],
-    i: usize,
     k: usize,
 ) -> io::Result<()> {
     if MOST_MACHINES <= k {
         return Ok(());
     }
     let m = machines::at(board, k);
-    tell_machine(rt, fault, board, m.id, target(board, i))
+    tell_machine(rt, fault, board, m.id)
 }
 
 fn tell_rotation(
@@ -100,7 +94,7 @@ fn tell_rotation(
     }
     let r = rotations::at(board, k);
     let mut line = [0u8; WIDTH];
-    let a = fault_lines::put_rotation_fault(&mut line, 0, r.shard, r.victim, r.entrant);
+    let a = fault_lines::put_rotation_fault(&mut line, 0, r);
     end(rt, &line, a)?;
     let mut more = [0u8; WIDTH];
     let b = fault_lines::put_rotation_wrong(&mut more, 0, fault);
@@ -111,11 +105,10 @@ fn tell_reshape(
     rt: &impl Print,
     fault: ReshapeFault,
     board: &[u64; WORDS],
-    i: usize,
     k: usize,
 ) -> io::Result<()> {
     let mut line = [0u8; WIDTH];
-    let a = fault_lines::put_reshape_fault(&mut line, 0, fault, target(board, k), target(board, i));
+    let a = fault_lines::put_reshape_fault(&mut line, 0, fault, target(board, k));
     end(rt, &line, a)
 }
 
@@ -128,14 +121,16 @@ fn tell_fault(
 ) -> io::Result<()> {
     match clause {
         Clause::StrayMember => tell_member(rt, board, i, k),
-        Clause::Unlisted => tell_record(rt, MachineFault::Unlisted, board, i, k),
+        Clause::Unlisted => tell_record(rt, MachineFault::Unlisted, board, k),
         Clause::AbsentSeat => tell_seat(rt, board, i, k),
         Clause::Unseated => tell_rotation(rt, RotationFault::Unseated, board, k),
         Clause::SharedParty => tell_rotation(rt, RotationFault::SharedParty, board, k),
         Clause::SplitThere => tell_rotation(rt, RotationFault::SplitThere, board, k),
-        Clause::Unhalved => tell_record(rt, MachineFault::Unhalved, board, i, k),
-        Clause::Overlapping => tell_reshape(rt, ReshapeFault::Overlapping, board, i, k),
-        Clause::Unfounded => tell_reshape(rt, ReshapeFault::Unfounded, board, i, k),
+        Clause::Unhalved => { tell_record(rt, MachineFault::Unhalved(target(board, i)), board, k) }
+        Clause::Overlapping => {
+            tell_reshape(rt, ReshapeFault::Overlapping(target(board, i)), board, k)
+        }
+        Clause::Unfounded => tell_reshape(rt, ReshapeFault::Unfounded, board, k),
     }
 }
 
@@ -157,29 +152,32 @@ fn over(rt: &impl Print, clause: Clause, board: &[u64; WORDS]) -> io::Result<()>
     Ok(())
 }
 
+const CLAUSES: [Clause; 9] = [
+    Clause::StrayMember,
+    Clause::Unlisted,
+    Clause::AbsentSeat,
+    Clause::Unseated,
+    Clause::SharedParty,
+    Clause::SplitThere,
+    Clause::Unhalved,
+    Clause::Overlapping,
+    Clause::Unfounded,
+];
+
 fn tell(rt: &impl Print, board: &[u64; WORDS]) -> io::Result<()> {
     if seats::seat_check(board) {
-        return text(rt, b"yes: the seat check passes\n");
+        return println!(rt; "yes: the seat check passes");
     }
-    over(rt, Clause::StrayMember, board)?;
-    over(rt, Clause::Unlisted, board)?;
-    over(rt, Clause::AbsentSeat, board)?;
-    over(rt, Clause::Unseated, board)?;
-    over(rt, Clause::SharedParty, board)?;
-    over(rt, Clause::SplitThere, board)?;
-    over(rt, Clause::Unhalved, board)?;
-    over(rt, Clause::Overlapping, board)?;
-    over(rt, Clause::Unfounded, board)?;
-    text(rt, b"no: the seat check fails\n")
+    for clause in &CLAUSES {
+        over(rt, *clause, board)?;
+    }
+    println!(rt; "no: the seat check fails")
 }
 
-pub(crate) fn run(rt: &(impl Env + Files + Print)) -> io::Result<()> {
-    if args::too_many(rt, 3)? {
-        return Ok(());
-    }
+pub(crate) fn run(rt: &(impl Env + Files + Print)) -> Result<(), Failure> {
+    args::at_most(rt, 3)?;
     let mut board = [0u64; WORDS];
-    if files::read_board(rt, 2, &mut board)? {
-        tell(rt, &board)?;
-    }
+    files::read_board(rt, 2, &mut board)?;
+    tell(rt, &board)?;
     Ok(())
 }

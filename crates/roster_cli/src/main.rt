@@ -7,6 +7,7 @@ mod checks;
 mod demo;
 mod diffs;
 mod facts;
+mod failure;
 mod files;
 mod help;
 mod lined;
@@ -16,38 +17,41 @@ mod say;
 mod show;
 mod trying;
 
+use failure::{Failure, Mistake};
 use std::env::Env;
+use std::fs::Files;
 use std::io;
 
-const COMMANDS: usize = 8;
-
-fn command(rt: &impl Env) -> usize {
-    args::which(
-        rt,
-        b"demo\nshow\ncheck\nstep\ndiff\nhelp\n--help\n-h",
-        COMMANDS,
-        1,
-    )
+fn tell_demo(rt: &(impl Env + Print)) -> Result<(), Failure> {
+    args::at_most(rt, 2)?;
+    demo::tell(rt)?;
+    Ok(())
 }
 
-fn tell_demo(rt: &(impl Env + Print)) -> io::Result<()> {
-    if args::too_many(rt, 2)? {
+fn run_command(rt: &(impl Env + Files + Print), word: &[u8]) -> Result<(), Failure> {
+    match word {
+        b"demo" => tell_demo(rt),
+        b"show" => show::run(rt),
+        b"check" => checks::run(rt),
+        b"step" => trying::run(rt),
+        b"diff" => diffs::run(rt),
+        b"help" | b"--help" | b"-h" => Ok(help::tell(rt)?),
+        _ => Err(Failure::Mistake(Mistake::NoSuchCommand, Some(1))),
+    }
+}
+
+fn run(rt: &(impl Env + Files + Print)) -> Result<(), Failure> {
+    if args::is_missing(rt, 1) {
+        demo::tell(rt)?;
         return Ok(());
     }
-    demo::tell(rt)
+    run_command(rt, args::word(rt, 1).as_slice())
 }
 
 fn main(rt: HostRuntime) -> io::Result<()> {
-    if args::is_missing(&rt, 1) {
-        return demo::tell(&rt);
-    }
-    match command(&rt) {
-        0 => tell_demo(&rt),
-        1 => show::run(&rt),
-        2 => checks::run(&rt),
-        3 => trying::run(&rt),
-        4 => diffs::run(&rt),
-        5 | 6 | 7 => help::tell(&rt),
-        _ => args::mistake(&rt, 1, say::NO_SUCH_COMMAND),
+    match run(&rt) {
+        Ok(()) => Ok(()),
+        Err(Failure::Mistake(what, about)) => failure::tell(&rt, what, about),
+        Err(Failure::Output(e)) => Err(e),
     }
 }

@@ -1,34 +1,25 @@
 // The lines of a roster's tables: the rows are looked up, laid and written.
+use crate::facts;
 use crate::files::WORDS;
 use crate::say::{WIDTH, end};
-use crate::{facts, say};
 use board::layout::{
     BOUNDARY_WIDTH, BOUNDS_AT, MOST_BOUNDS, MOST_COMMITTEES, MOST_MEMBERS, MOST_RESHAPES,
     MOST_ROTATIONS, MOST_SEATS,
 };
 use board::{committees, settings};
 use lines::put_text;
-use reshapes::{fields, seats as cohort};
-use row_lines::Progress;
+use reshapes::{Side, fields, seats as cohort};
+use row_lines::{Boundary, Progress};
+use sections::Section;
 use shards::rotations;
 use std::io;
-use types::{BlockHeight, Epoch, ShardId};
-
-// Which rows `each` tells.
-pub const INSIDE_MEMBERS: u64 = 0;
-
-pub const INSIDE_SEATS: u64 = 1;
+use types::{BlockHeight, Epoch, Machine, ShardId};
 
 fn member_without(rt: &impl Print, id: u64) -> io::Result<()> {
-    say::row(
-        rt,
-        b"######################  not here: it has no record",
-        0,
-        &[id],
-    )
+    println!(rt; "{id:>22}  not here: it has no record")
 }
 
-fn member(rt: &impl Print, board: &[u64; WORDS], j: usize, k: usize) -> io::Result<()> {
+pub(crate) fn member(rt: &impl Print, board: &[u64; WORDS], j: usize, k: usize) -> io::Result<()> {
     if MOST_COMMITTEES <= j {
         return Ok(());
     }
@@ -41,8 +32,9 @@ fn member(rt: &impl Print, board: &[u64; WORDS], j: usize, k: usize) -> io::Resu
     }
     let shard = committees::shard_at(board, j);
     let place = rows::place_of(board, id);
+    let member = Machine { id, place };
     let mut line = [0u8; WIDTH];
-    let a = row_lines::put_member_row(&mut line, 0, shard, id, place, settings::ready_wait(board));
+    let a = row_lines::put_member_row(&mut line, 0, shard, member, settings::ready_wait(board));
     end(rt, &line, a)
 }
 
@@ -63,7 +55,7 @@ pub(crate) fn seat(
     let seat = cohort::at(board, i, k);
     let mut line = [0u8; WIDTH];
     let a = put_text(&mut line, 0, before);
-    let b = row_lines::put_seat(&mut line, a, seat.id, seat.child, seat.ready);
+    let b = row_lines::put_seat(&mut line, a, seat);
     end(rt, &line, b)
 }
 
@@ -73,7 +65,7 @@ pub(crate) fn rotation(rt: &impl Print, board: &[u64; WORDS], i: usize) -> io::R
     }
     let r = rotations::at(board, i);
     let mut line = [0u8; WIDTH];
-    let a = row_lines::put_rotation(&mut line, 0, r.shard, r.victim, r.entrant, r.opened);
+    let a = row_lines::put_rotation(&mut line, 0, r);
     end(rt, &line, a)
 }
 
@@ -88,21 +80,26 @@ fn bound_word(board: &[u64; WORDS], i: usize, k: usize) -> u64 {
     board[BOUNDS_AT + 1 + i * BOUNDARY_WIDTH + k]
 }
 
+// An epoch of a boundary, where the word before it says that there is one.
+fn end_of(flag: u64, epoch: u64) -> Option<Epoch> {
+    if flag == 0 { None } else { Some(Epoch(epoch)) }
+}
+
 pub(crate) fn boundary(rt: &impl Print, board: &[u64; WORDS], i: usize) -> io::Result<()> {
-    let shard = ShardId(bound_word(board, i, 0));
-    let height = BlockHeight(bound_word(board, i, 1));
-    let formed = Epoch(bound_word(board, i, 2));
-    let live = Epoch(bound_word(board, i, 3));
-    let ending = bound_word(board, i, 4) != 0;
-    let terminal = Epoch(bound_word(board, i, 5));
-    let admitting = bound_word(board, i, 6) != 0;
-    let admitted = Epoch(bound_word(board, i, 7));
+    let bound = Boundary {
+        shard: ShardId(bound_word(board, i, 0)),
+        height: BlockHeight(bound_word(board, i, 1)),
+        formed: Epoch(bound_word(board, i, 2)),
+        live: Epoch(bound_word(board, i, 3)),
+        terminal: end_of(bound_word(board, i, 4), bound_word(board, i, 5)),
+        admitted: end_of(bound_word(board, i, 6), bound_word(board, i, 7)),
+    };
     let mut line = [0u8; WIDTH];
-    let a = row_lines::put_boundary(&mut line, 0, shard, height, formed, live);
+    let a = row_lines::put_boundary(&mut line, 0, bound);
     end(rt, &line, a)?;
     let mut more = [0u8; WIDTH];
-    let b = row_lines::put_ends(&mut more, 0, ending, terminal, admitting, admitted);
-    if ending | admitting {
+    let b = row_lines::put_ends(&mut more, 0, bound);
+    if bound.terminal.is_some() | bound.admitted.is_some() {
         end(rt, &more, b)?;
     }
     Ok(())
@@ -132,37 +129,24 @@ pub(crate) fn put_reshape_state(
     if MOST_RESHAPES <= i {
         return at;
     }
-    let by = waits::drain_by(board, i);
-    let terminal = fields::terminal_at(board, i);
     let progress = Progress {
         merge: fields::is_merge(board, i),
-        draining: fields::is_draining(board, i),
-        by: by.0,
-        left: fields::is_quiet_left(board, i),
-        right: fields::is_quiet_right(board, i),
-        scheduled: fields::is_scheduled(board, i),
-        terminal: terminal.0,
+        drain_by: waits::drain_by(board, i),
+        left: fields::is_quiet(board, i, Side::Left),
+        right: fields::is_quiet(board, i, Side::Right),
+        terminal: if fields::is_scheduled(board, i) {
+            Some(fields::terminal_at(board, i))
+        } else {
+            None
+        },
     };
     row_lines::put_progress(line, at, progress)
 }
 
-fn row(rt: &impl Print, what: u64, board: &[u64; WORDS], j: usize, i: usize) -> io::Result<()> {
-    if what == INSIDE_MEMBERS {
-        return member(rt, board, j, i);
-    }
-    seat(rt, b"        ", board, j, i)
-}
-
-// So many rows inside row j.
-pub(crate) fn each(
-    rt: &impl Print,
-    what: u64,
-    board: &[u64; WORDS],
-    j: usize,
-    n: usize,
-) -> io::Result<()> {
-    for i in 0..n {
-        row(rt, what, board, j, i)?;
+// The seats of the reshape at i.
+pub(crate) fn seats(rt: &impl Print, board: &[u64; WORDS], i: usize) -> io::Result<()> {
+    for k in 0..facts::count(board, Section::Seats, i) {
+        seat(rt, b"        ", board, i, k)?;
     }
     Ok(())
 }

@@ -1,128 +1,114 @@
 // `show`: the roster as people read it.
+ghost use Rattle.std.specs.Prelude.{◌<◌};
+ghost use Rattle.rules.specs.Board.{most_reshapes};
+
+use crate::failure::Failure;
 use crate::files::WORDS;
-use crate::lists::{OTHER, POOLED, SEATED, SHORT, WATCHING};
-use crate::say::text;
+use crate::lists::Kind;
 use crate::{args, facts, files, lined, lists, rows_of, say};
-use sections::{BOUNDARIES, COMMITTEES, MACHINES, RESHAPES, ROTATIONS, SEATS, SETTINGS};
+use board::layout::MOST_RESHAPES;
+use drains::Whose;
+use sections::Section;
 use std::env::Env;
 use std::fs::Files;
 use std::io;
 use templates::number_at;
+use types::ShardId;
 
 // ---- the settings, and counts
 
-fn tell_counts(rt: &impl Print, k: usize, numbers: &[u64]) -> io::Result<()> {
+fn settings(rt: &impl Print, board: &[u64; WORDS]) -> io::Result<()> {
+    let s = Section::Settings.table(board, 0);
+    let epoch = number_at(s, 1);
+    let size = number_at(s, 2);
+    let quorum = waits::quorum(board);
+    println!(rt; "epoch {epoch}; shard size {size}, quorum {quorum}")?;
     say::row(
         rt,
-        b"epoch #; shard size #, quorum #\n\
-          ~~~drain length #; ready wait #; shuffle interval #; most rotations in flight #\n\
-          machines: #: seated #, watching #, pooled #, short of stake #, other #\n\
-          shard #: members #, seated #, ready #\n\
-          \x20 child #: seats #, ready #: they reach the quorum of #\n\
-          \x20 child #: seats #, ready #; for the quorum it waits for ready members in its half: #~ of #\n\
-          \x20 keepers #, ready #: they reach the quorum of #\n\
-          \x20 keepers #, ready #; for the quorum it waits for ready keepers: ~#\n",
-        k,
-        numbers,
+        b"~~~drain length #; ready wait #; shuffle interval #; most rotations in flight #",
+        s,
     )
 }
 
-fn settings(rt: &impl Print, board: &[u64; WORDS]) -> io::Result<()> {
-    let s = facts::table(board, SETTINGS, 0);
-    tell_counts(
-        rt,
-        0,
-        &[number_at(s, 1), number_at(s, 2), facts::quorum(board)],
-    )?;
-    tell_counts(rt, 1, s)
-}
-
 fn totals(rt: &impl Print, board: &[u64; WORDS]) -> io::Result<()> {
-    text(rt, b"\n")?;
-    tell_counts(
-        rt,
-        2,
-        &[
-            facts::count(board, MACHINES, 0) as u64,
-            lists::count_of(board, SEATED),
-            lists::count_of(board, WATCHING),
-            lists::count_of(board, POOLED),
-            lists::count_of(board, SHORT),
-            lists::count_of(board, OTHER),
-        ],
+    let all = facts::count(board, Section::Machines, 0);
+    let seated = lists::count_of(board, Kind::Seated);
+    let watching = lists::count_of(board, Kind::Watching);
+    let pooled = lists::count_of(board, Kind::Pooled);
+    let short = lists::count_of(board, Kind::Short);
+    let other = lists::count_of(board, Kind::Other);
+    println!(rt;
+        "\nmachines: {all}: seated {seated}, watching {watching}, pooled {pooled}, short of stake {short}, other {other}"
     )
 }
 
 // ---- committees
 
 fn committee(rt: &impl Print, board: &[u64; WORDS], j: usize) -> io::Result<()> {
-    let row = facts::row(board, COMMITTEES, 0, j);
+    let row = facts::row(board, Section::Committees, 0, j);
     let shard = number_at(row, 0);
-    text(rt, b"\n")?;
-    tell_counts(
-        rt,
-        3,
-        &[
-            shard,
-            number_at(row, 1),
-            facts::seated(board, shard),
-            facts::ready(board, shard),
-        ],
-    )?;
-    rows_of::each(
-        rt,
-        rows_of::INSIDE_MEMBERS,
-        board,
-        j,
-        number_at(row, 1) as usize,
-    )
+    let members = number_at(row, 1);
+    let on = waits::members_on(board, ShardId(shard));
+    let seated = on.seated;
+    let ready = on.ready;
+    println!(rt; "\nshard {shard}: members {members}, seated {seated}, ready {ready}")?;
+    for k in 0..members as usize {
+        rows_of::member(rt, board, j, k)?;
+    }
+    Ok(())
 }
 
 // ---- what a reshape that is not scheduled waits for
 
-fn lacking(quorum: u64, ready: u64) -> u64 {
-    if quorum <= ready {
-        return 0;
-    }
-    quorum - ready
-}
-
-fn child(rt: &impl Print, board: &[u64; WORDS], i: usize, child: u64, half: u64) -> io::Result<()> {
-    let seats = facts::seats(board, i, child);
-    let ready = facts::ready_seats(board, i, child);
-    let quorum = facts::quorum(board);
-    let lacks = lacking(quorum, ready);
+fn child(rt: &impl Print, board: &[u64; WORDS], i: usize, child: u64, half: u64) -> io::Result<()>
+    requires { i < most_reshapes }
+{
+    let seats = waits::seats_for(board, i, ShardId(child)) as u64;
+    let ready = drains::ready_seats(board, i, Whose::Of(ShardId(child))) as u64;
+    let quorum = waits::quorum(board);
+    let lacks = quorum.saturating_sub(ready);
     if lacks == 0 {
-        return tell_counts(rt, 4, &[child, seats, ready, quorum]);
+        return println!(rt;
+            "  child {child}: seats {seats}, ready {ready}: they reach the quorum of {quorum}"
+        );
     }
-    tell_counts(rt, 5, &[child, seats, ready, lacks, quorum, half])
+    say::row(
+        rt,
+        b"  child #: seats #, ready #; for the quorum it waits for ready members in its half: # of #",
+        &[child, seats, ready, lacks, half],
+    )
 }
 
 // A left half has n/2 rounded up.
-fn children(rt: &impl Print, board: &[u64; WORDS], i: usize, target: u64) -> io::Result<()> {
+fn children(rt: &impl Print, board: &[u64; WORDS], i: usize, target: u64) -> io::Result<()>
+    requires { i < most_reshapes }
+{
     if 32767 < target {
         return Ok(());
     }
-    let n = facts::seated(board, target);
+    let on = waits::members_on(board, ShardId(target));
+    let n = on.seated as u64;
     child(rt, board, i, 2 * target, n - n / 2)?;
     child(rt, board, i, 2 * target + 1, n / 2)
 }
 
-fn keepers(rt: &impl Print, board: &[u64; WORDS], i: usize) -> io::Result<()> {
-    let n = facts::count(board, SEATS, i) as u64;
-    let ready = facts::ready_keepers(board, i);
-    let quorum = facts::quorum(board);
-    let lacks = lacking(quorum, ready);
+fn keepers(rt: &impl Print, board: &[u64; WORDS], i: usize) -> io::Result<()>
+    requires { i < most_reshapes }
+{
+    let n = facts::count(board, Section::Seats, i);
+    let ready = drains::ready_seats(board, i, Whose::All) as u64;
+    let quorum = waits::quorum(board);
+    let lacks = quorum.saturating_sub(ready);
     if lacks == 0 {
-        return tell_counts(rt, 6, &[n, ready, quorum]);
+        return println!(rt; "  keepers {n}, ready {ready}: they reach the quorum of {quorum}");
     }
-    tell_counts(rt, 7, &[n, ready, quorum, lacks])
+    println!(rt; "  keepers {n}, ready {ready}; for the quorum it waits for ready keepers: {lacks}")
 }
 
 fn gate(rt: &impl Print, board: &[u64; WORDS], i: usize) -> io::Result<()> {
-    let row = facts::row(board, RESHAPES, 0, i);
+    let row = facts::row(board, Section::Reshapes, 0, i);
     let is_scheduled = number_at(row, 5) == 1;
-    if is_scheduled {
+    if is_scheduled || MOST_RESHAPES <= i {
         return Ok(());
     }
     let is_merge = number_at(row, 1) == 1;
@@ -134,89 +120,80 @@ fn gate(rt: &impl Print, board: &[u64; WORDS], i: usize) -> io::Result<()> {
 
 // One reshape: what it is, what it waits for, its seats and its halves.
 fn reshape(rt: &impl Print, board: &[u64; WORDS], i: usize) -> io::Result<()> {
-    text(rt, b"\n")?;
-    lined::reshape_head(rt, lined::NOTHING, board, i)?;
-    lined::reshape_state(rt, lined::INDENTED, board, i)?;
+    println!(rt)?;
+    lined::reshape_head(rt, b"", board, i)?;
+    lined::reshape_state(rt, b"  ", board, i)?;
     gate(rt, board, i)?;
-    rows_of::each(
-        rt,
-        rows_of::INSIDE_SEATS,
-        board,
-        i,
-        facts::count(board, SEATS, i),
-    )?;
+    rows_of::seats(rt, board, i)?;
     lists::list_halves(rt, board, i)
 }
 
 // ---- the whole
 
-fn one(rt: &impl Print, which: u64, board: &[u64; WORDS], i: usize) -> io::Result<()> {
-    match which {
-        1 => committee(rt, board, i),
-        2 => rows_of::boundary(rt, board, i),
-        3 => rows_of::rotation(rt, board, i),
-        _ => reshape(rt, board, i),
-    }
-}
-
-fn each(rt: &impl Print, which: u64, board: &[u64; WORDS]) -> io::Result<()> {
-    let n = facts::count(board, which, 0);
-    for i in 0..n {
-        one(rt, which, board, i)?;
+fn committees(rt: &impl Print, board: &[u64; WORDS]) -> io::Result<()> {
+    for j in 0..facts::count(board, Section::Committees, 0) {
+        committee(rt, board, j)?;
     }
     Ok(())
 }
 
-fn heading(rt: &impl Print, k: usize, n: u64) -> io::Result<()> {
-    say::row(
-        rt,
-        b"pool: #\n\nwatching: #\nshort of stake: #\nother: #\nboundaries: #\nrotations: #\nreshapes: #\n",
-        k,
-        &[n],
-    )
-}
-
-// A place is its own heading's number.
-fn of_kind(rt: &impl Print, kind: u64, board: &[u64; WORDS]) -> io::Result<()> {
+fn of_kind(rt: &impl Print, name: &str, kind: Kind, board: &[u64; WORDS]) -> io::Result<()> {
     let n = lists::count_of(board, kind);
-    heading(rt, kind as usize, n)?;
+    println!(rt; "{name}: {n}")?;
     if 0 < n {
-        lists::kind(rt, kind, board)?;
+        lists::list_kind(rt, kind, board)?;
     }
     Ok(())
 }
 
 fn places(rt: &impl Print, board: &[u64; WORDS]) -> io::Result<()> {
     totals(rt, board)?;
-    of_kind(rt, POOLED, board)?;
-    of_kind(rt, WATCHING, board)?;
-    of_kind(rt, SHORT, board)?;
-    of_kind(rt, OTHER, board)
+    of_kind(rt, "pool", Kind::Pooled, board)?;
+    of_kind(rt, "watching", Kind::Watching, board)?;
+    of_kind(rt, "short of stake", Kind::Short, board)?;
+    of_kind(rt, "other", Kind::Other, board)
 }
 
-fn head(rt: &impl Print, k: usize, which: u64, board: &[u64; WORDS]) -> io::Result<()> {
-    heading(rt, k, facts::count(board, which, 0) as u64)
+fn rotations(rt: &impl Print, board: &[u64; WORDS]) -> io::Result<()> {
+    let n = facts::count(board, Section::Rotations, 0);
+    println!(rt; "rotations: {n}")?;
+    for i in 0..n {
+        rows_of::rotation(rt, board, i)?;
+    }
+    Ok(())
+}
+
+fn boundaries(rt: &impl Print, board: &[u64; WORDS]) -> io::Result<()> {
+    let n = facts::count(board, Section::Boundaries, 0);
+    println!(rt; "boundaries: {n}")?;
+    for i in 0..n {
+        rows_of::boundary(rt, board, i)?;
+    }
+    Ok(())
+}
+
+fn reshapes(rt: &impl Print, board: &[u64; WORDS]) -> io::Result<()> {
+    let n = facts::count(board, Section::Reshapes, 0);
+    println!(rt; "reshapes: {n}")?;
+    for i in 0..n {
+        reshape(rt, board, i)?;
+    }
+    Ok(())
 }
 
 pub(crate) fn tell(rt: &impl Print, board: &[u64; WORDS]) -> io::Result<()> {
     settings(rt, board)?;
-    each(rt, COMMITTEES, board)?;
+    committees(rt, board)?;
     places(rt, board)?;
-    head(rt, 6, ROTATIONS, board)?;
-    each(rt, ROTATIONS, board)?;
-    head(rt, 5, BOUNDARIES, board)?;
-    each(rt, BOUNDARIES, board)?;
-    head(rt, 7, RESHAPES, board)?;
-    each(rt, RESHAPES, board)
+    rotations(rt, board)?;
+    boundaries(rt, board)?;
+    reshapes(rt, board)
 }
 
-pub(crate) fn run(rt: &(impl Env + Files + Print)) -> io::Result<()> {
-    if args::too_many(rt, 3)? {
-        return Ok(());
-    }
+pub(crate) fn run(rt: &(impl Env + Files + Print)) -> Result<(), Failure> {
+    args::at_most(rt, 3)?;
     let mut board = [0u64; WORDS];
-    if files::read_board(rt, 2, &mut board)? {
-        tell(rt, &board)?;
-    }
+    files::read_board(rt, 2, &mut board)?;
+    tell(rt, &board)?;
     Ok(())
 }

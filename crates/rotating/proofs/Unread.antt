@@ -1,9 +1,9 @@
 -- The draws that are not yet read: how many of them a rotate uses, and that a rotate through a reader is the plain step on them.
 use Prim.Native.Nat.{ℕ, ◌+◌, ◌-◌, ◌≤◌, ◌<◌, ◌^◌}
-use mathlib.Core.Path.{◌≡◌, ap, sym, ◌∙◌, subst}
+use mathlib.Core.Path.{◌≡◌, ap, ◌∙◌, subst}
 use mathlib.Core.List.{List}
 use native.Mathlib.Omega.{arith}
-use lib.ListN.{length, take, drop, length-drop, drop_of_length-le}
+use lib.ListN.{length, take, drop, length-drop}
 use lib.Seq.{take_all}
 use Rattle.types.specs.declared.Outcome.{Outcome}
 use Rattle.rules.specs.Calls as calls
@@ -15,12 +15,6 @@ use Rattle.steps.specs.Inner.{Steps}
 use Rattle.steps.proofs.Public.{step_answers}
 use Rattle.draw_readers.specs.declared.DrawReader.{DrawReader}
 use Rattle.rotating.specs.Rotated.{unread, draws_used_by}
-
-pub past_the_end : (draws : List ℕ) (at : ℕ) → length draws < at → drop (length draws) draws ≡ drop at draws
-past_the_end draws at h =
-    let here : length draws ≤ length draws = omega arith in
-    let further : length draws ≤ at = omega arith in
-    drop_of_length-le draws here ∙ sym (drop_of_length-le draws further)
 
 -- a rotate on the part of the list that is lent on is one on the draws not yet read
 pub on_unread : (s m from at : ℕ) (draws before after : List ℕ) (o : Outcome) → drop from draws ≡ drop at draws → WellHeld before

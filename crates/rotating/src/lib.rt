@@ -17,21 +17,11 @@ pub struct RotatedAt {
     pub at: usize,
 }
 
-// The same with the reader handed back.
-#[derive(Clone, Copy)]
-pub struct Rotated<'a> {
-    pub reader: DrawReader<'a>,
-    pub outcome: Outcome,
-}
-
 // Where the draws that are not yet read begin; past the end none is left.
 fn unread_from(draws: &[u64], at: usize) -> usize
     ensures { (result ≤ length draws.now) × (drop result draws.now ≡ drop at draws.now) }
 {
-    if draws.len() < at {
-        return draws.len();
-    }
-    at
+    at.min(draws.len())
 }
 
 // The work: the step on the draws from a position on.
@@ -60,21 +50,17 @@ pub fn rotate_from(
     }
 }
 
-pub fn rotate_reading<'b, 'a>(
-    board: &'b mut [u64],
+// The step on the draws that the reader has not yet read; it moves on by those used.
+pub fn rotate_reading(
+    board: &mut [u64],
     shard: ShardId,
     machine: ValidatorId,
-    reader: DrawReader<'a>,
-) -> Rotated<'a>
-    ensures { PermittedStep (rotate shard.0 machine.0 (unread reader.entry)) board.old board.new result.outcome
-        × (result.reader ≡ advanced reader.entry (draws_used_by result.outcome)) }
+    reader: &mut DrawReader<'_>,
+) -> Outcome
+    ensures permitted { PermittedStep (rotate shard.0 machine.0 (unread reader.old)) board.old board.new result }
+    ensures moved_on { reader.new ≡ advanced reader.old (draws_used_by result) }
 {
     let step = rotate_from(board, shard, machine, reader.draws, reader.at);
-    Rotated {
-        reader: DrawReader {
-            draws: reader.draws,
-            at: step.at,
-        },
-        outcome: step.outcome,
-    }
+    reader.at = step.at;
+    step.outcome
 }

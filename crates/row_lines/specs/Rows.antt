@@ -1,9 +1,10 @@
 -- The rows of a roster's tables, in words.
-use Rattle.std.specs.Prelude.{ℕ, Bool, cond, List, ◌++◌}
+use Rattle.std.specs.Prelude.{ℕ, Bool, cond, List, ◌++◌, Option}
 use Rattle.types.specs.Places.{is_seated_on, observes}
+use Rattle.types.specs.declared.Epoch.{Epoch}
 use Rattle.types.specs.declared.Place.{Place}
 use Rattle.lines.specs.Numeral.{numeral}
-use Rattle.phrases.specs.Texts.{bytes, named, column, either}
+use Rattle.phrases.specs.Texts.{bytes, named, column, either, epoch_or}
 use Rattle.phrases.specs.Places.{place_text, member_text}
 use Rattle.row_lines.specs.declared.Progress.{Progress}
 
@@ -23,11 +24,11 @@ seat_text id child ready = numeral 14 id ++ column "  seat on " 5 child ++ eithe
 unfoldable pub boundary_text : ℕ → ℕ → ℕ → ℕ → List ℕ
 boundary_text shard height formed live = column "  shard " 5 shard ++ column " height " 20 height ++ column " formed " 10 formed ++ column " live " 10 live
 
--- the epochs that a boundary may lack, each under its flag
-unfoldable pub ends_text : Bool → ℕ → Bool → ℕ → List ℕ
-ends_text ending terminal admitting admitted =
-    cond ending (column "              terminal " 10 terminal) (bytes "              terminal          -")
-    ++ cond admitting (column " admitted " 10 admitted) (bytes " admitted          -")
+-- the epochs that a boundary may lack
+unfoldable pub ends_text : Option Epoch → Option Epoch → List ℕ
+ends_text terminal admitted =
+    epoch_or (bytes "              terminal ") 10 terminal (bytes "              terminal          -")
+    ++ epoch_or (bytes " admitted ") 10 admitted (bytes " admitted          -")
 
 unfoldable pub reshape_text : Bool → ℕ → ℕ → List ℕ
 reshape_text merge target admitted = either merge "merge to shard " "split of shard " ++ numeral 0 target ++ named ", admitted at " admitted
@@ -41,6 +42,6 @@ quiet_text merge left right =
 
 unfoldable pub progress_text : Progress → List ℕ
 progress_text p =
-    cond p.draining (named "drains by " p.by) (bytes "no drain stamp yet")
+    epoch_or (bytes "drains by ") 0 p.drain_by (bytes "no drain stamp yet")
     ++ quiet_text p.merge p.left p.right
-    ++ cond p.scheduled (named "; terminal " p.terminal) (bytes "; not scheduled yet")
+    ++ epoch_or (bytes "; terminal ") 0 p.terminal (bytes "; not scheduled yet")

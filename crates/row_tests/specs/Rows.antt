@@ -1,5 +1,5 @@
 -- The test of a row's words, by its kind.
-use Rattle.std.specs.Prelude.{ℕ, ◌≡◌, List, [], ◌∷◌, Bool, true, false, leb, eqb}
+use Rattle.std.specs.Prelude.{ℕ, List, [], ◌∷◌, Bool, true, false, leb, eqb}
 use Rattle.types.specs.Shards.{parent_of}
 use Rattle.rules.specs.Board.{most_members, most_seats, most_half, last_stamp, last_shard}
 use Rattle.rules.specs.WellFormed.{within, is_shard, is_target, is_stamp}
@@ -96,11 +96,6 @@ width_of Committees = committee_width
 width_of Boundaries = boundary_width
 width_of Rotations = rotation_width
 width_of Reshapes = reshape_width
-
--- w and pairs are those of a kind of rows
-pub record Shape (k : RowKind) (w : ℕ) (pairs : Bool) : Type 0 where
-  pub wide : w ≡ width_of k
-  pub paired : pairs ≡ in_pairs k
 
 -- a table of any kind of rows
 abbrev pub kind_ok : RowKind → ℕ → List ℕ → Bool

@@ -3,14 +3,18 @@
 
 ghost use Rattle.std.specs.Prelude.{◌≡◌, [], ◌∷◌, false, ◌≤◌, length};
 ghost use Rattle.board.specs.Layout.{machine_width, committee_width, boundary_width, rotation_width, seat_width, seats_at, reshape_width};
-ghost use Rattle.word_tests.specs.Tests.{at, mark_count, rises, first_ok};
+ghost use Rattle.word_tests.specs.Tests.{at};
 ghost use Rattle.row_tests.specs.Rows.{machine_ok, committee_ok, option_ok, boundary_ok, rotation_ok, seat_ok, seats_ok, epochs_ok, flags_ok, reshape_head_ok, scheduled_ok, halves_ok, reshape_ok, row_ok, width_of};
 
 use board::layout::{
     COMMITTEE_WIDTH, LAST_SHARD, LAST_TARGET, LEFT_AT, MEMBERS_AT, MOST_HALF, MOST_MEMBERS,
     MOST_SEATS, RESHAPE_WIDTH, RIGHT_AT, SEAT_WIDTH, SEATS_AT,
 };
-use word_tests::MARKS;
+use word_tests::{Marks, Row, table_ok};
+
+mod kinds;
+
+pub use kinds::{BoundaryRows, CommitteeRows, MachineRows, ReshapeRows, RotationRows};
 
 // ---- The ranges of rules/specs/Board.antt
 
@@ -20,7 +24,7 @@ const LAST_MARK: u64 = 255;
 
 // ---- Rows
 
-// By a place's code. A match, which becomes a table of constants where they are given; an array would be laid anew at each call.
+// By a place's code, a word of the board. A match, which becomes a table of constants where they are given; an array would be laid anew at each call.
 // All five codes have an arm, so that the table has all five and nothing is asked before it.
 fn by_code(code: u64, pooled: u64, seated: u64, observing: u64, short: u64, other: u64) -> u64
     requires { code ≤ 4 }
@@ -59,23 +63,15 @@ pub fn machine_ok(t: &[u64]) -> bool
 }
 
 // The shard, then the members; by marks that serve many committees.
-pub fn committee_ok(marks: &mut [u8], stamp: u8, t: &[u64]) -> bool
-    requires { (length marks.old ≡ mark_count) × (length t.now ≡ committee_width) }
-    ensures { result ≡ committee_ok t.now }
-{
-    let members = word_tests::ids_ok(marks, stamp, MOST_MEMBERS, &t[MEMBERS_AT..COMMITTEE_WIDTH]);
-    word_tests::inside(1, LAST_SHARD, t[0]) & members
-}
-
-fn lone_committee_ok(t: &[u64]) -> bool
+pub fn committee_ok(marks: &mut Marks, t: &[u64]) -> bool
     requires { length t.now ≡ committee_width }
     ensures { result ≡ committee_ok t.now }
 {
-    let mut marks: [u8; MARKS] = [0; MARKS];
-    committee_ok(&mut marks, 1, t)
+    let members = word_tests::ids_ok(marks, MOST_MEMBERS, &t[MEMBERS_AT..COMMITTEE_WIDTH]);
+    word_tests::inside(1, LAST_SHARD, t[0]) & members
 }
 
-// A flag and a value: none has no value.
+// A flag and a value, which are two words of the board: none has no value.
 fn option_ok(f: u64, v: u64) -> bool
     ensures { result ≡ option_ok f v }
 {
@@ -112,33 +108,26 @@ pub fn seat_ok(target: u64, t: &[u64]) -> bool
     (t[1] / 2 == target) & (t[2] <= 1)
 }
 
-fn first_seat_ok(target: u64, n: usize, t: &[u64]) -> bool
-    ensures { result ≡ first_ok (seat_ok target) (rises false) seat_width n t.now }
-{
-    if t.len() < SEAT_WIDTH {
-        return false;
-    }
-    seat_ok(target, &t[..SEAT_WIDTH]) & ((n == 1) | word_tests::rises(false, t, &t[SEAT_WIDTH..]))
+// The seats of a reshape with this target.
+#[derive(Drop)]
+struct SeatRows {
+    target: u64,
 }
 
-// A loop of its own: a table comes here through `reshape_ok`, and nothing recurs.
-fn seats_ok(target: u64, t: &[u64]) -> bool
-    requires { 1 ≤ length t.now }
-    ensures { result ≡ seats_ok target t.now }
-{
-    let mut n = t[0] as usize;
-    if MOST_SEATS < n {
-        return false;
+impl Row for SeatRows {
+    ghost passes = { λ s. seat_ok s.target };
+
+    ghost WIDTH = { seat_width };
+
+    ghost PAIRED = { false };
+
+    const WIDTH: usize = SEAT_WIDTH;
+
+    const PAIRED: bool = false;
+
+    fn passes(&mut self, row: &[u64]) -> bool {
+        seat_ok(self.target, row)
     }
-    let mut a: usize = 1;
-    while 0 < n {
-        if !first_seat_ok(target, n, &t[a..]) {
-            return false;
-        }
-        a += SEAT_WIDTH;
-        n -= 1;
-    }
-    word_tests::all_zero(&t[a..])
 }
 
 // Target, admitted, drain-by and terminal.
@@ -180,9 +169,9 @@ fn halves_ok(t: &[u64]) -> bool
     requires { length t.now ≡ reshape_width }
     ensures { result ≡ halves_ok t.now }
 {
-    let mut marks: [u8; MARKS] = [0; MARKS];
-    let left = word_tests::ids_ok(&mut marks, 1, MOST_HALF, &t[LEFT_AT..RIGHT_AT]);
-    let right = word_tests::ids_ok(&mut marks, 2, MOST_HALF, &t[RIGHT_AT..RESHAPE_WIDTH]);
+    let mut marks = Marks::new();
+    let left = word_tests::ids_ok(&mut marks, MOST_HALF, &t[LEFT_AT..RIGHT_AT]);
+    let right = word_tests::ids_ok(&mut marks, MOST_HALF, &t[RIGHT_AT..RESHAPE_WIDTH]);
     left & right & scheduled_ok(t[1], t[5], t[LEFT_AT], t[RIGHT_AT])
 }
 
@@ -190,7 +179,8 @@ fn reshape_ok(t: &[u64]) -> bool
     requires { length t.now ≡ reshape_width }
     ensures { result ≡ reshape_ok t.now }
 {
-    reshape_head_ok(t) & seats_ok(t[0], &t[SEATS_AT..LEFT_AT]) & halves_ok(t)
+    let mut seats = SeatRows { target: t[0] };
+    reshape_head_ok(t) & table_ok(&mut seats, MOST_SEATS, &t[SEATS_AT..LEFT_AT]) & halves_ok(t)
 }
 
 // ---- Any kind of rows
@@ -210,7 +200,7 @@ pub fn row_ok(k: RowKind, t: &[u64]) -> bool
 {
     match k {
         RowKind::Machines => machine_ok(t),
-        RowKind::Committees => lone_committee_ok(t),
+        RowKind::Committees => committee_ok(&mut Marks::new(), t),
         RowKind::Boundaries => boundary_ok(t),
         RowKind::Rotations => rotation_ok(t),
         RowKind::Reshapes => reshape_ok(t),

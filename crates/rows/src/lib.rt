@@ -1,7 +1,7 @@
 // Where a row stands, by its key.
 #![tactic(auto)]
 
-ghost use Rattle.std.specs.Prelude.{◌≡◌, Bool, true, false, ◌+◌, ◌<◌, length, get_or};
+ghost use Rattle.std.specs.Prelude.{◌≡◌, Bool, true, false, ◌+◌, ◌<◌, length, get_or, Some, IfSome};
 ghost use Rattle.types.specs.Numbers.{Shard};
 ghost use Rattle.types.specs.declared.Place as declared;
 ghost use Rattle.rules.specs.Board.{Board, most_machines, most_committees, most_bounds, most_reshapes, most_seats};
@@ -9,7 +9,7 @@ ghost use Rattle.rules.specs.WellFormed.{is_target, well_formed};
 ghost use Rattle.rules.specs.Moves.{says};
 ghost use Rattle.board.specs.Layout.{board_size};
 ghost use Rattle.board.specs.Held.{Holds, no_machine, no_committee, no_boundary, no_reshape, no_seat};
-ghost use Rattle.rows.specs.Found.{Found};
+ghost use Rattle.rows.specs.Finds.{FoundAt};
 
 use board::layout::{
     BOARD_SIZE, BOUNDARY_WIDTH, BOUNDS_AT, COMMITTEE_WIDTH, COMMITTEES_AT, LAST_TARGET,
@@ -28,12 +28,13 @@ pub fn is_target(target: ShardId) -> bool
     (1 <= t) & (t <= LAST_TARGET)
 }
 
-// The row of the machine; 256, past every row, where it has no record.
-pub fn machine_row(board: &[u64], id: ValidatorId) -> usize
+// The row of the machine, where it has a record.
+pub fn find_machine(board: &[u64], id: ValidatorId) -> Option<usize>
     requires { length board.now ≡ board_size }
-    ensures { (b : Board) → Holds board.now b → well_formed b ≡ true → Found most_machines id.0 no_machine b.machines result }
+    ensures room { IfSome result (λ i. i < most_machines) }
+    ensures found { (b : Board) → Holds board.now b → well_formed b ≡ true → FoundAt id.0 no_machine b.machines result }
 {
-    tables::row_of(
+    tables::find_row(
         &board[MACHINES_AT..COMMITTEES_AT],
         MACHINE_WIDTH,
         MOST_MACHINES,
@@ -46,20 +47,22 @@ pub fn place_of(board: &[u64], id: ValidatorId) -> Place
     requires { length board.now ≡ board_size }
     ensures { (b : Board) → Holds board.now b → well_formed b ≡ true → (f : declared.Place → Bool) → f Place.Short ≡ false → f result ≡ says f b id.0 }
 {
-    let i = machine_row(board, id);
-    if MOST_MACHINES <= i {
-        return Place::Short;
+    match find_machine(board, id) {
+        Some(i) => {
+            let m = machines::at(board, i);
+            m.place
+        }
+        None => Place::Short,
     }
-    let m = machines::at(board, i);
-    m.place
 }
 
-// The row of the shard's committee; 24, past every row, where there is none.
-pub fn committee_row(board: &[u64], shard: ShardId) -> usize
+// The row of the shard's committee, where there is one.
+pub fn find_committee(board: &[u64], shard: ShardId) -> Option<usize>
     requires { length board.now ≡ board_size }
-    ensures { (b : Board) → Holds board.now b → well_formed b ≡ true → Found most_committees shard.0 no_committee b.committees result }
+    ensures room { IfSome result (λ i. i < most_committees) }
+    ensures found { (b : Board) → Holds board.now b → well_formed b ≡ true → FoundAt shard.0 no_committee b.committees result }
 {
-    tables::row_of(
+    tables::find_row(
         &board[COMMITTEES_AT..BOUNDS_AT],
         COMMITTEE_WIDTH,
         MOST_COMMITTEES,
@@ -67,12 +70,13 @@ pub fn committee_row(board: &[u64], shard: ShardId) -> usize
     )
 }
 
-// The row of the shard's boundary; 48, past every row, where there is none.
-pub fn bound_row(board: &[u64], shard: ShardId) -> usize
+// The row of the shard's boundary, where there is one.
+pub fn find_bound(board: &[u64], shard: ShardId) -> Option<usize>
     requires { length board.now ≡ board_size }
-    ensures { (b : Board) → Holds board.now b → well_formed b ≡ true → Found most_bounds shard.0 no_boundary b.bounds result }
+    ensures room { IfSome result (λ i. i < most_bounds) }
+    ensures found { (b : Board) → Holds board.now b → well_formed b ≡ true → FoundAt shard.0 no_boundary b.bounds result }
 {
-    tables::row_of(
+    tables::find_row(
         &board[BOUNDS_AT..ROTATIONS_AT],
         BOUNDARY_WIDTH,
         MOST_BOUNDS,
@@ -80,44 +84,47 @@ pub fn bound_row(board: &[u64], shard: ShardId) -> usize
     )
 }
 
-// As `bound_row`, of the shard after the one whose row is i: a child's sibling has the next row, or none.
-pub fn bound_after(board: &[u64], i: usize, shard: ShardId) -> usize
+// As `find_bound`, of the shard after the one whose row is i: a child's sibling has the next row, or none.
+pub fn find_bound_after(board: &[u64], i: usize, shard: ShardId) -> Option<usize>
     requires { (length board.now ≡ board_size) × (i < most_bounds) }
-    ensures { (b : Board) → Holds board.now b → well_formed b ≡ true → i < length b.bounds → (get_or b.bounds i no_boundary).key + 1 ≡ shard.0 →
-        Found most_bounds shard.0 no_boundary b.bounds result }
+    ensures room { IfSome result (λ j. j < most_bounds) }
+    ensures found { (b : Board) → Holds board.now b → well_formed b ≡ true → i < length b.bounds → (get_or b.bounds i no_boundary).key + 1 ≡ shard.0 →
+        FoundAt shard.0 no_boundary b.bounds result }
 {
     let j = i + 1;
     if bounds::count(board) <= j {
-        return MOST_BOUNDS;
+        return None;
     }
     if MOST_BOUNDS <= j {
-        return MOST_BOUNDS;
+        return None;
     }
     let next = bounds::shard_at(board, j);
     if next.0 == shard.0 {
-        return j;
+        return Some(j);
     }
-    MOST_BOUNDS
+    None
 }
 
-// The same, where i was found for the shard before and may be past every row.
-pub fn bound_beside(board: &[u64], i: usize, shard: ShardId) -> usize
+// The same, where the shard before was looked for and may have no row.
+pub fn find_bound_beside(board: &[u64], before: Option<usize>, shard: ShardId) -> Option<usize>
     requires { length board.now ≡ board_size }
-    ensures { (b : Board) → Holds board.now b → well_formed b ≡ true → (s : Shard) → Found most_bounds s no_boundary b.bounds i → s + 1 ≡ shard.0 →
-        Found most_bounds shard.0 no_boundary b.bounds result }
+    ensures room { IfSome result (λ j. j < most_bounds) }
+    ensures found { (b : Board) → Holds board.now b → well_formed b ≡ true → (s : Shard) → FoundAt s no_boundary b.bounds before → s + 1 ≡ shard.0 →
+        FoundAt shard.0 no_boundary b.bounds result }
 {
-    if i < MOST_BOUNDS {
-        return bound_after(board, i, shard);
+    match before {
+        Some(i) if i < MOST_BOUNDS => find_bound_after(board, i, shard),
+        _ => find_bound(board, shard),
     }
-    bound_row(board, shard)
 }
 
-// The row of the target's reshape; 8, past every row, where there is none.
-pub fn reshape_row(board: &[u64], target: ShardId) -> usize
+// The row of the target's reshape, where there is one.
+pub fn find_reshape(board: &[u64], target: ShardId) -> Option<usize>
     requires { length board.now ≡ board_size }
-    ensures { (b : Board) → Holds board.now b → well_formed b ≡ true → Found most_reshapes target.0 no_reshape b.reshapes result }
+    ensures room { IfSome result (λ i. i < most_reshapes) }
+    ensures found { (b : Board) → Holds board.now b → well_formed b ≡ true → FoundAt target.0 no_reshape b.reshapes result }
 {
-    tables::row_among_few(
+    tables::find_among_few(
         &board[RESHAPES_AT..BOARD_SIZE],
         RESHAPE_WIDTH,
         MOST_RESHAPES,
@@ -125,11 +132,12 @@ pub fn reshape_row(board: &[u64], target: ShardId) -> usize
     )
 }
 
-// The row of the machine's seat in the reshape at i; 32, past every row, where there is none.
-pub fn seat_row(board: &[u64], i: usize, machine: ValidatorId) -> usize
+// The row of the machine's seat in the reshape at i, where it has one.
+pub fn find_seat(board: &[u64], i: usize, machine: ValidatorId) -> Option<usize>
     requires { (length board.now ≡ board_size) × (i < most_reshapes) }
-    ensures { (b : Board) → Holds board.now b → well_formed b ≡ true → i < length b.reshapes →
-        Found most_seats machine.0 no_seat (get_or b.reshapes i no_reshape).val.seats result }
+    ensures room { IfSome result (λ k. k < most_seats) }
+    ensures found { (b : Board) → Holds board.now b → well_formed b ≡ true → i < length b.reshapes →
+        FoundAt machine.0 no_seat (get_or b.reshapes i no_reshape).val.seats result }
 {
-    seats::row_of(board, i, machine)
+    seats::find(board, i, machine)
 }

@@ -1,3 +1,3 @@
 pub mod Shuffles
 pub mod Sorts
-pub mod Mixes
+pub mod Failing

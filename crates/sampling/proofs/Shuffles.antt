@@ -1,100 +1,121 @@
 -- A draw and a shuffle, as the code has them: a turn, and each way out.
 use Prim.Native.Nat.{ℕ, suc, ◌+◌, ◌-◌, ◌≤◌, ◌<◌}
 use mathlib.Core.Path.{◌≡◌, refl, ap, sym, ◌∙◌, subst}
-use mathlib.Core.List.{List}
-use mathlib.Core.Bool.{cond}
+use mathlib.Core.List.{List, [], ◌∷◌}
+use mathlib.Core.Bool.{Bool, true, false, cond}
 use native.Mathlib.Omega.{arith}
 use native.Mathlib.Numerals.{add-one}
 use borrow.Author.Tests.{le-leb, lt-leb}
-use lib.ListN.{length, get_or, set, drop, length-drop, drop_of_length-le}
+use lib.Dec.{leb}
+use lib.ListN.{length, get_or, set, drop, drop_of_length-le}
 use lib.Seq.{drop-cons}
+use Rattle.std.specs.List.{swap}
+use Rattle.std.proofs.lemmas.List.Edits.{swap_is}
 use Rattle.rules.specs.Draws.{Drawn, drew, missing, too_large, and_then, draw_index, exchange, shuffle_from}
-use Rattle.sampling.specs.Reads.{GivesIndex, GivesShuffle, mixed_from}
-use Rattle.sampling.specs.declared.Drawn.TheVariants as drawn
-use Rattle.sampling.specs.declared.Shuffled.{Shuffled}
-use Rattle.sampling.specs.declared.Shuffled.TheVariants as shuffled
+use Rattle.rules.proofs.Tests.{le_of}
+use Rattle.sampling.specs.Reads.{Read, no_draw, mixed_from}
+use Rattle.sampling.specs.declared.Reader.{Reader}
+use Rattle.sampling.specs.declared.DrawError.{DrawError}
+use Rattle.sampling.specs.declared.DrawError.TheVariants as errors
 
 -- ---- the next draw, at p
 
 module _ (ds : List ℕ) (p most : ℕ) where
-  none_left : length ds ≤ p → draw_index most (drop p ds) ≡ missing
+  pub index_missing : length ds ≤ p → draw_index most (drop p ds) ≡ missing
   unfolding draw_index
-  none_left h = rw (drop_of_length-le ds h)
+  index_missing h = rw (drop_of_length-le ds h)
 
-  too_large_lem : p < length ds → most < get_or ds p 0 → draw_index most (drop p ds) ≡ too_large
+  pub index_large : p < length ds → most < get_or ds p 0 → draw_index most (drop p ds) ≡ too_large
   unfolding draw_index
-  too_large_lem h k = rw (drop-cons ds p 0 h, lt-leb (get_or ds p 0) most k)
+  index_large h k = rw (drop-cons ds p 0 h, lt-leb (get_or ds p 0) most k)
 
-  found : p < length ds → get_or ds p 0 ≤ most → draw_index most (drop p ds) ≡ drew (get_or ds p 0) (drop (suc p) ds)
+  pub index_found : p < length ds → get_or ds p 0 ≤ most → Read ds (draw_index most (drop p ds)) (get_or ds p 0) (record { at = p + 1 })
   unfolding draw_index
-  found h k = rw (drop-cons ds p 0 h, le-leb (get_or ds p 0) most k)
+  index_found h k = record { within = omega arith; drew = rw (add-one p, drop-cons ds p 0 h, le-leb (get_or ds p 0) most k) }
 
-  -- a reader at p + 1 has the draws after p left
-  next : p < length ds → p + 1 ≡ length ds - length (drop (suc p) ds)
-  next h = omega (arith, length-drop (suc p) ds)
+-- ---- what a draw that gives j tells of the list that it reads
 
-  pub index_missing : length ds ≤ p → GivesIndex (length ds) (draw_index most (drop p ds)) drawn.Missing
-  index_missing h = rw (none_left h) refl
+pub record Reads (most : ℕ) (l : List ℕ) (j : ℕ) (rest : List ℕ) : Type 0 where
+  pub first : l ≡ j ∷ rest
+  pub fits : j ≤ most
+  pub test : leb j most ≡ true
 
-  pub index_large : p < length ds → most < get_or ds p 0 → GivesIndex (length ds) (draw_index most (drop p ds)) drawn.TooLarge
-  index_large h k = rw (too_large_lem h k) refl
+pub drawn_reads : (most : ℕ) (l : List ℕ) (j : ℕ) (rest : List ℕ) → draw_index most l ≡ drew j rest → Reads most l j rest
+unfolding draw_index
+drawn_reads most [] j rest e = absurd (let z : ◌≡◌ {A = ℕ} 0 1 = cc in omega arith)
+drawn_reads most (x ∷ l) j rest e = go (leb x most) refl e
+  where
+    go : (c : Bool) → leb x most ≡ c → cond c (drew x l) too_large ≡ drew j rest → Reads most (x ∷ l) j rest
+    go true t f =
+        let a : x ≡ j = cc in
+        let b : l ≡ rest = cc in
+        let u : leb j most ≡ true = rw (← a) t in
+        record { first = rw (a, b) refl; fits = le_of j most u; test = u }
+    go false t f = absurd (let z : ◌≡◌ {A = ℕ} 0 1 = cc in omega arith)
 
-  pub index_found : p < length ds → get_or ds p 0 ≤ most → GivesIndex (length ds) (draw_index most (drop p ds)) (drawn.Index (get_or ds p 0) (record { at = p + 1 }))
-  index_found h k = rw (found h k) (ap (λ n. drawn.Index (get_or ds p 0) (record { at = n })) (next h))
-
--- ---- the shuffle with i places to go, whose next draw is at p
+-- ---- the shuffle with i places to go, whose next draw is at the reader
 
 -- what is left of the shuffle of a list is what is left of another's: its answer and its list
 pub record Same (i : ℕ) (l ds : List ℕ) (x : Drawn (List ℕ)) (m : List ℕ) : Type 0 where
   pub answer : shuffle_from i l ds ≡ x
   pub list : mixed_from i l ds ≡ m
 
-module _ (l ds : List ℕ) (i p : ℕ) (x : Drawn (List ℕ)) (m : List ℕ) (inv : Same (i - 1) l (drop p ds) x m) where
-  abbrev j : ℕ
-  j = get_or ds p 0
+-- a turn that draws nothing leaves the list
+stays : (k : ℕ) (l ds : List ℕ) (e : DrawError) → draw_index (suc k) ds ≡ no_draw e → mixed_from (suc k) l ds ≡ l
+unfolding mixed_from draw_index
+stays k l [] e q = refl
+stays k l (j ∷ ds) e q = go (leb j (suc k)) e q
+  where
+    go : (c : Bool) (e : DrawError) → cond c (drew j ds) too_large ≡ no_draw e → cond c (mixed_from k (exchange (suc k) j l) ds) l ≡ l
+    go true errors.Missing f = absurd (let z : ◌≡◌ {A = ℕ} 0 1 = cc in omega arith)
+    go true errors.TooLarge f = absurd (let z : ◌≡◌ {A = ℕ} 0 1 = cc in omega arith)
+    go false e f = refl
 
+module _ (l ds : List ℕ) (i : ℕ) (at : Reader) (x : Drawn (List ℕ)) (m : List ℕ) (inv : Same (i - 1) l (drop at.at ds) x m) where
   abbrev k : ℕ
   k = i - 1 - 1
 
   -- the turn that comes next, by its number
-  here : 1 < i → Same (suc k) l (drop p ds) x m
+  here : 1 < i → Same (suc k) l (drop at.at ds) x m
   here h = let e : i - 1 ≡ suc k = omega arith in rw (← e) inv
 
-  pub turn : 1 < i → p < length ds → j ≤ i - 1 → Same k (set (set l (i - 1) (get_or l j 0)) j (get_or l (i - 1) 0)) (drop (p + 1) ds) x m
+  pub turn : (j : ℕ) (left : Reader) → 1 < i → i ≤ length l → Read ds (draw_index (i - 1) (drop at.at ds)) j left → Same k (swap l (i - 1) j) (drop left.at ds) x m
   unfolding shuffle_from mixed_from and_then exchange
-  turn h q small =
+  turn j left h q r =
       let e : i - 1 ≡ suc k = omega arith in
-      let f : j ≤ suc k = omega arith in
-      rw (add-one p) (subst (λ n. Same k (set (set l n (get_or l j 0)) j (get_or l n 0)) (drop (suc p) ds) x m) (sym e) (record {
-        answer = sym (ap (λ d. and_then d (λ v left. shuffle_from k (exchange (suc k) v l) left)) (found ds p (suc k) q f)) ∙ (here h).answer;
-        list = sym (ap (mixed_from (suc k) l) (drop-cons ds p 0 q) ∙ ap (λ b. cond b (mixed_from k (exchange (suc k) j l) (drop (suc p) ds)) l) (le-leb j (suc k) f)) ∙ (here h).list;
+      let d = drawn_reads (i - 1) (drop at.at ds) j (drop left.at ds) r.drew in
+      let f : j < length l = omega (arith, d.fits) in
+      let s = swap_is l (i - 1) j 0 (omega arith) f in
+      let now : Same (suc k) l (j ∷ drop left.at ds) x m = rw (← d.first) (here h) in
+      let t : leb j (suc k) ≡ true = rw (← e) d.test in
+      let y : draw_index (suc k) (j ∷ drop left.at ds) ≡ drew j (drop left.at ds) = subst (λ n. draw_index n (j ∷ drop left.at ds) ≡ drew j (drop left.at ds)) e (rw d.first at r.drew) in
+      rw (← s) (subst (λ n. Same k (set (set l n (get_or l j 0)) j (get_or l n 0)) (drop left.at ds) x m) (sym e) (record {
+        answer = sym (ap (λ (z : Drawn ℕ). and_then z (λ v rest. shuffle_from k (exchange (suc k) v l) rest)) y) ∙ now.answer;
+        list = sym (ap (λ b. cond b (mixed_from k (exchange (suc k) j l) (drop left.at ds)) l) t) ∙ now.list;
       }))
 
-  -- what the caller gets: the answer, and the list as it is
-  pub record Out (r : Shuffled) : Type 0 where
-    pub gives : GivesShuffle (length ds) x r
+  -- what the caller gets where a turn draws nothing
+  pub record Out (e : DrawError) : Type 0 where
+    pub tells : x ≡ no_draw e
     pub left : l ≡ m
 
-  pub out_missing : 1 < i → length ds ≤ p → Out shuffled.Missing
-  unfolding shuffle_from mixed_from and_then
-  out_missing h q = record {
-    gives = subst (λ (y : Drawn (List ℕ)). GivesShuffle (length ds) y shuffled.Missing) (sym (ap (λ d. and_then d (λ v left. shuffle_from k (exchange (suc k) v l) left)) (none_left ds p (suc k) q)) ∙ (here h).answer) refl;
-    left = sym (ap (mixed_from (suc k) l) (drop_of_length-le ds q)) ∙ (here h).list;
-  }
-
-  pub out_large : 1 < i → p < length ds → i - 1 < j → Out shuffled.TooLarge
-  unfolding shuffle_from mixed_from and_then
-  out_large h q big =
-      let f : suc k < j = omega arith in
+  pub out : (e : DrawError) → 1 < i → draw_index (i - 1) (drop at.at ds) ≡ no_draw e → Out e
+  unfolding shuffle_from and_then
+  out e h q =
+      let f : i - 1 ≡ suc k = omega arith in
+      let d : draw_index (suc k) (drop at.at ds) ≡ no_draw e = rw (← f) q in
       record {
-        gives = subst (λ (y : Drawn (List ℕ)). GivesShuffle (length ds) y shuffled.TooLarge) (sym (ap (λ d. and_then d (λ v left. shuffle_from k (exchange (suc k) v l) left)) (too_large_lem ds p (suc k) q f)) ∙ (here h).answer) refl;
-        left = sym (ap (mixed_from (suc k) l) (drop-cons ds p 0 q) ∙ ap (λ b. cond b (mixed_from k (exchange (suc k) j l) (drop (suc p) ds)) l) (lt-leb j (suc k) f)) ∙ (here h).list;
+        tells = sym (here h).answer ∙ ap (λ (y : Drawn ℕ). and_then y (λ v rest. shuffle_from k (exchange (suc k) v l) rest)) d ∙ fails e;
+        left = sym (stays k l (drop at.at ds) e d) ∙ (here h).list;
       }
+    where
+      fails : (e : DrawError) → and_then {A = ℕ} (no_draw e) (λ v rest. shuffle_from k (exchange (suc k) v l) rest) ≡ no_draw e
+      fails errors.Missing = refl
+      fails errors.TooLarge = refl
 
-  pub out_done : i ≤ 1 → p ≤ length ds → Out (shuffled.Done (record { at = p }))
+  pub done : i ≤ 1 → (drew l (drop at.at ds) ≡ x) × (l ≡ m)
   unfolding shuffle_from mixed_from
-  out_done h q =
+  done h =
       let e : i - 1 ≡ 0 = omega arith in
-      let n : p ≡ length ds - length (drop p ds) = omega (arith, length-drop p ds) in
-      let s : Same 0 l (drop p ds) x m = rw (← e) inv in
-      record { gives = subst (λ (y : Drawn (List ℕ)). GivesShuffle (length ds) y (shuffled.Done (record { at = p }))) s.answer (ap (λ a. shuffled.Done (record { at = a })) n); left = s.list }
+      let s : Same 0 l (drop at.at ds) x m = rw (← e) inv in
+      (s.answer, s.list)

@@ -7,6 +7,7 @@ use mathlib.Core.Bool.{true, false}
 use native.Mathlib.Omega.{arith}
 use lib.Dec.{leb}
 use lib.ListN.{length, get_or}
+use Rattle.std.specs.Prelude.{Result, Ok, Err}
 use Rattle.types.specs.Numbers.{Shard}
 use Rattle.types.specs.Shards.{quorum}
 use Rattle.types.specs.declared.Answer.{Answer}
@@ -24,8 +25,7 @@ use Rattle.sampling.specs.declared.Reader.{Reader}
 use Rattle.board.specs.Held.{Holds}
 use Rattle.steps.specs.Inner.{outcome, Step}
 use Rattle.pool.specs.Told.{Finished}
-use Rattle.pool.specs.declared.Turned.{Turned}
-use Rattle.pool.specs.declared.Turned.TheVariants.{Done, Refused}
+use Rattle.pool.specs.declared.Turn as step
 use Rattle.batches.specs.declared.Which.TheVariants.{MergesToSchedule}
 use Rattle.batches.specs.Targets.{targets_of}
 use Rattle.batches.specs.Underway.{Underway}
@@ -63,11 +63,11 @@ module _ (targets : List Shard) (b : Board) where
   abbrev pub Run : ℕ → ℕ → List ℕ → Type 0
   Run i handled now = Underway schedule_merge Good targets [] b i handled 0 now
 
-  module _ (i handled : ℕ) (now after : List ℕ) (u : Run i handled now) (l : i < length targets) (r : Turned) (t : TellsShard schedule_merge [] 0 (get_or targets i 0) now after r) where
-    pub run_on : (n : ℕ) (left : Reader) → r ≡ Done n left → Run (i + 1) (handled + n) after
-    run_on n left e = drawless_done schedule_merge schedule_merge_reads Good (λ c k. of_good k) targets (λ s o. merge_finishes s) b r i handled now after u l t n left e
+  module _ (i handled : ℕ) (now after : List ℕ) (u : Run i handled now) (l : i < length targets) (r : Result step.Turn Answer) (t : TellsShard schedule_merge [] 0 (get_or targets i 0) now after r) where
+    pub run_on : (done : step.Turn) → r ≡ Ok done → Run (i + 1) (handled + done.handled) after
+    run_on done e = drawless_done schedule_merge schedule_merge_reads Good (λ c k. of_good k) targets (λ s o. merge_finishes s) b r i handled now after u l t done e
 
-    pub run_stops : (a : Answer) → r ≡ Refused a → Step (λ c. batch schedule_merge targets [] b) b after (outcome a handled 0)
+    pub run_stops : (a : Answer) → r ≡ Err a → Step (λ c. batch schedule_merge targets [] b) b after (outcome a handled 0)
     run_stops a e = turn_refused schedule_merge schedule_merge_reads Good (λ c k. of_good k) targets (λ s o. merge_finishes s) b r [] i handled 0 now after u l t a e
 
   pub run_begins : (now : List ℕ) → Holds now b → well_formed b ≡ true → Run 0 0 now

@@ -9,13 +9,12 @@ ghost use Rattle.rules.specs.Schedule.{merge_gate, schedule_merge, schedule_merg
 ghost use Rattle.board.specs.Layout.{board_size};
 ghost use Rattle.board.specs.Held.{Holds, no_reshape};
 ghost use Rattle.steps.specs.Inner.{Step, Steps};
-ghost use Rattle.pool.specs.Told.{TellsTurn};
+ghost use Rattle.pool.specs.Told.{TurnTells};
 ghost use Rattle.batches.specs.Underway.{Within};
 
 use batches::Which;
-use board::layout::MOST_RESHAPES;
 use drains::{Plan, Whose};
-use pool::Turned;
+use pool::Turn;
 use sampling::Reader;
 use types::{Answer, Outcome, ShardId};
 
@@ -28,33 +27,32 @@ fn passes_gate(board: &[u64], i: usize) -> bool
 }
 
 // One merge's turn; where it is refused, every word is as before.
-fn try_schedule_merge(board: &mut [u64], target: ShardId) -> Turned
+fn try_schedule_merge(board: &mut [u64], target: ShardId) -> Result<Turn, Answer>
     requires { length board.old ≡ board_size }
-    ensures { Within 0 result × ((b : Board) → Holds board.old b → well_formed b ≡ true → TellsTurn [] board.new b (schedule_merge target.0 [] b) result) }
+    ensures { Within 0 result × ((b : Board) → Holds board.old b → well_formed b ≡ true → TurnTells [] board.new b (schedule_merge target.0 [] b) result) }
 {
-    let at = Reader::start();
+    let left = Reader::start();
+    let passed_over = Turn { handled: 0, left };
     if !rows::is_target(target) {
-        return Turned::Done(0, at);
+        return Ok(passed_over);
     }
-    let i = rows::reshape_row(board, target);
-    if MOST_RESHAPES <= i {
-        return Turned::Done(0, at);
-    }
+    let Some(i) = rows::find_reshape(board, target) else {
+        return Ok(passed_over);
+    };
     if !passes_gate(board, i) {
-        return Turned::Done(0, at);
+        return Ok(passed_over);
     }
-    let plan = drains::plan_at(board, target, i);
-    match plan {
+    match drains::plan_at(board, target, i) {
         Plan::Stamp => {
             drains::stamp(board, i);
-            Turned::Done(0, at)
+            Ok(passed_over)
         }
-        Plan::Wait => Turned::Done(0, at),
+        Plan::Wait => Ok(passed_over),
         Plan::Schedule => {
             drains::schedule(board, target, i);
-            Turned::Done(1, at)
+            Ok(Turn { handled: 1, left })
         }
-        Plan::Unbounded => Turned::Refused(Answer::NoBoundary),
+        Plan::Unbounded => Err(Answer::NoBoundary),
     }
 }
 
@@ -64,20 +62,17 @@ fn in_turn(board: &mut [u64], targets: &[u64]) -> Outcome
     ensures { (b : Board) → Holds board.old b → well_formed b ≡ true → Step (λ c. batch schedule_merge targets.now [] b) b board.new result }
 {
     let mut handled: u64 = 0;
-    let mut i: usize = 0;
-    while i < targets.len() {
-        let turned = try_schedule_merge(board, ShardId(targets[i]));
-        match turned {
-            Turned::Done(n, _) => handled += n,
-            Turned::Refused(answer) => {
+    for target in targets {
+        match try_schedule_merge(board, ShardId(*target)) {
+            Ok(turn) => handled += turn.handled,
+            Err(answer) => {
                 return Outcome {
-                    answer: answer,
-                    handled: handled,
+                    answer,
+                    handled,
                     draws_used: 0,
                 };
             }
         }
-        i += 1;
     }
     steps::done(handled, 0)
 }

@@ -6,6 +6,7 @@ use mathlib.Core.Option.{Option, none, some}
 use mathlib.Core.Bool.{Bool, true, false, cond, not}
 use native.Mathlib.Omega.{arith}
 use lib.ListN.{length, get_or}
+use Rattle.std.specs.Prelude.{Result, Ok, Err}
 use Rattle.types.specs.Numbers.{Shard, Id}
 use Rattle.types.specs.Places.{is_seated_on, is_ready}
 use Rattle.types.specs.declared.Answer.{Answer}
@@ -15,7 +16,7 @@ use Rattle.rules.specs.Lists.{◌and◌, count, has, sort}
 use Rattle.rules.specs.Table.{Table, at}
 use Rattle.rules.specs.Board.{split, Reshape, Board}
 use Rattle.rules.specs.WellFormed.{well_formed}
-use Rattle.rules.specs.Draws.{Drawn, drew, shuffle}
+use Rattle.rules.specs.Draws.{drew, shuffle}
 use Rattle.rules.specs.Moves.{says, members_of, entrants_on, abort_rotations, bounds_stand}
 use Rattle.rules.specs.Turns.{Turn, finished, refused, drawn, batch}
 use Rattle.rules.specs.Reshapes.{half_up}
@@ -29,11 +30,12 @@ use Rattle.rules.proofs.KeptSchedule.{Splits, all_splits, split_finishes}
 use Rattle.rules.proofs.Draws.{schedule_split_reads}
 use Rattle.board.specs.Held.{Holds, no_reshape}
 use Rattle.steps.specs.Inner.{outcome, Step}
-use Rattle.sampling.specs.declared.Reader.{Reader}
-use Rattle.pool.specs.Told.{TellsTurn}
-use Rattle.pool.specs.declared.Turned.{Turned}
-use Rattle.pool.specs.declared.Turned.TheVariants.{Done, Refused}
-use Rattle.gathering.specs.Gathered.{Staying, gathered, Lacks, lacking, large}
+use Rattle.sampling.specs.declared.DrawError.{DrawError}
+use Rattle.sampling.specs.declared.DrawError.TheVariants.{Missing, TooLarge}
+use Rattle.sampling.specs.Reads.{no_draw, answer_to}
+use Rattle.pool.specs.Told.{TurnTells}
+use Rattle.pool.specs.declared.Turn as step
+use Rattle.gathering.specs.Gathered.{Staying, gathered}
 use Rattle.batches.specs.Underway.{Within, Underway}
 use Rattle.batches.proofs.Law.{TellsShard, begins, ends}
 use Rattle.batches.proofs.Loop.{turn_done, turn_refused}
@@ -128,20 +130,20 @@ module _ (t : Shard) (b : Board) (draws before : List ℕ) (e : before ≡ gathe
         go true v = of_not _ (and_parts _ _ v).1
         go false v = absurd (omega (arith, here, rw v at listed))
 
-  pub split_lacks : (a : Answer) → Lacks (shuffle (sort before) draws) a → schedule_split t draws b ≡ refused a
+  pub split_lacks : (e : DrawError) → shuffle (sort before) draws ≡ no_draw e → schedule_split t draws b ≡ refused (answer_to e)
   unfolding schedule_split halve drawn
-  split_lacks a l = go (shuffle (sort before) draws) a l drawn_among
+  split_lacks x q = go x (drawn_among ∙ q)
     where
-      go : (d : Drawn (List Id)) (a : Answer) → Lacks d a → shuffle (seated_there t (abort_rotations t b)) draws ≡ d → schedule_split t draws b ≡ refused a
-      go d a lacking u = rw u
-      go d a large u = rw u
+      go : (x : DrawError) → shuffle (seated_there t (abort_rotations t b)) draws ≡ no_draw x → schedule_split t draws b ≡ refused (answer_to x)
+      go Missing u = rw u
+      go TooLarge u = rw u
 
-pub tells_same : (draws after : List ℕ) (b : Board) (x y : Turn) (r : Turned) → x ≡ y → TellsTurn draws after b y r → TellsTurn draws after b x r
-tells_same draws after b x y r e h = subst (λ (z : Turn). TellsTurn draws after b z r) (sym e) h
+pub tells_same : (draws after : List ℕ) (b : Board) (x y : Turn) (r : Result step.Turn Answer) → x ≡ y → TurnTells draws after b y r → TurnTells draws after b x r
+tells_same draws after b x y r e h = subst (λ (z : Turn). TurnTells draws after b z r) (sym e) h
 
-pub within_more : (m n : ℕ) (r : Turned) → m ≤ n → Within m r → Within n r
-within_more m n (Done k left) l w = (w.0, omega (arith, w.1))
-within_more m n (Refused a) l w = tt
+pub within_more : (m n : ℕ) (r : Result step.Turn Answer) → m ≤ n → Within m r → Within n r
+within_more m n (Ok t) l w = (w.0, omega (arith, w.1))
+within_more m n (Err a) l w = tt
 
 -- ---- the turns in a row
 
@@ -149,11 +151,11 @@ module _ (targets : List Shard) (draws : List ℕ) (b : Board) where
   abbrev pub Run : ℕ → ℕ → ℕ → List ℕ → Type 0
   Run i handled used now = Underway schedule_split (Splits targets) targets draws b i handled used now
 
-  module _ (i handled used : ℕ) (now after : List ℕ) (u : Run i handled used now) (l : i < length targets) (r : Turned) (t : TellsShard schedule_split draws used (get_or targets i 0) now after r) where
-    pub run_on : (n : ℕ) (left : Reader) → r ≡ Done n left → Run (i + 1) (handled + n) left.at after
-    run_on n left e = turn_done schedule_split schedule_split_reads (Splits targets) (λ c k. of_good k.good) targets (split_finishes targets) b r draws i handled used now after u l t n left e
+  module _ (i handled used : ℕ) (now after : List ℕ) (u : Run i handled used now) (l : i < length targets) (r : Result step.Turn Answer) (t : TellsShard schedule_split draws used (get_or targets i 0) now after r) where
+    pub run_on : (done : step.Turn) → r ≡ Ok done → Run (i + 1) (handled + done.handled) done.left.at after
+    run_on done e = turn_done schedule_split schedule_split_reads (Splits targets) (λ c k. of_good k.good) targets (split_finishes targets) b r draws i handled used now after u l t done e
 
-    pub run_stops : (a : Answer) → r ≡ Refused a → Step (λ c. batch schedule_split targets draws b) b after (outcome a handled used)
+    pub run_stops : (a : Answer) → r ≡ Err a → Step (λ c. batch schedule_split targets draws b) b after (outcome a handled used)
     run_stops a e = turn_refused schedule_split schedule_split_reads (Splits targets) (λ c k. of_good k.good) targets (split_finishes targets) b r draws i handled used now after u l t a e
 
   pub run_ends : (i handled used : ℕ) (now : List ℕ) → Run i handled used now → length targets ≤ i → Step (λ c. batch schedule_split targets draws b) b now (outcome answers.Done handled used)

@@ -14,6 +14,8 @@ ghost use Rattle.seats.specs.Tells.{TellsSeats};
 use board::layout::MOST_RESHAPES;
 use reshapes::fields;
 
+// Loops that stop at the first row that fails: `all` is no plainer, and its closure would need clauses over the board.
+
 // ---- reshapes
 
 // No reshape after row i has a family that shares a shard with that of the one at i.
@@ -23,12 +25,10 @@ fn is_family_apart(board: &[u64], i: usize) -> bool
 {
     let target = fields::target_at(board, i);
     let n = steps::rows_within(fields::count(board), MOST_RESHAPES);
-    let mut k = i + 1;
-    while k < n {
+    for k in i + 1..n {
         if families::overlaps(target, fields::target_at(board, k)) {
             return false;
         }
-        k += 1;
     }
     true
 }
@@ -38,12 +38,10 @@ fn families_apart(board: &[u64]) -> bool
     ensures { (b : Board) → Holds board.now b → result ≡ families_apart (keys_of b.reshapes) }
 {
     let n = steps::rows_within(fields::count(board), MOST_RESHAPES);
-    let mut i: usize = 0;
-    while i < n {
+    for i in 0..n {
         if !is_family_apart(board, i) {
             return false;
         }
-        i += 1;
     }
     true
 }
@@ -67,12 +65,10 @@ fn reshapes_stand(board: &[u64]) -> bool
     ensures { (b : Board) → Holds board.now b → well_formed b ≡ true → result ≡ reshapes_stand b }
 {
     let n = steps::rows_within(fields::count(board), MOST_RESHAPES);
-    let mut i: usize = 0;
-    while i < n {
+    for i in 0..n {
         if !reshape_stands(board, i) {
             return false;
         }
-        i += 1;
     }
     true
 }

@@ -1,9 +1,9 @@
-// The tables of a board by number, as parts of its words: a count, and rows of one width.
+// The tables of a board, as parts of its words: a count, and rows of one width.
 #![tactic(auto)]
 
-ghost use Rattle.std.specs.Prelude.{◌≡◌, ◌+◌, ◌≤◌, length, get_or};
+ghost use Rattle.std.specs.Prelude.{◌≡◌, ◌+◌, ◌-◌, ◌≤◌, length, get_or, IfSome, MatchResult, Some, None};
 ghost use Rattle.board.specs.Layout.{board_size, reshape_width};
-ghost use Rattle.sections.specs.Tables.{widths, members_span, reshape_span, span_of, table_in, row_in, ids_in, count_in};
+ghost use Rattle.sections.specs.Tables.{width_of, span, members_span, reshape_span, span_of, table_in, section_of, width_at, table_at, row_in, ids_in, count_in};
 
 use board::layout::{
     BOARD_SIZE, BOUNDARY_WIDTH, BOUNDS_AT, COMMITTEE_WIDTH, COMMITTEES_AT, HALF_SIZE, LEFT_AT,
@@ -11,137 +11,180 @@ use board::layout::{
     RESHAPE_WIDTH, RESHAPES_AT, RIGHT_AT, ROTATION_WIDTH, ROTATIONS_AT, SEAT_WIDTH, SEATS_AT,
     SEATS_SIZE,
 };
-use board::machines;
 use templates::number_at;
 
-pub const MACHINES: u64 = 0;
+#[derive(Clone, Copy, PartialEq, Eq)]
+pub enum Section {
+    Machines,
+    Committees,
+    Boundaries,
+    Rotations,
+    Reshapes,
+    // Of a committee.
+    Members,
+    // Of a reshape.
+    Seats,
+    Left,
+    Right,
+    // A count, and the six.
+    Settings,
+}
 
-pub const COMMITTEES: u64 = 1;
+// A number that names no table.
+#[derive(Clone, Copy, PartialEq, Eq)]
+pub struct NoSuchSection(pub u64);
 
-pub const BOUNDARIES: u64 = 2;
+impl TryFrom<u64> for Section {
+    type Error = NoSuchSection;
 
-pub const ROTATIONS: u64 = 3;
+    ghost try_from_gives = { λ number named. MatchResult named (λ section. section_of number ≡ Some section) (λ _. section_of number ≡ None) };
 
-pub const RESHAPES: u64 = 4;
-
-// The members of a committee; the seats and the halves of a reshape.
-pub const MEMBERS: u64 = 5;
-
-pub const SEATS: u64 = 6;
-
-pub const LEFT: u64 = 7;
-
-pub const RIGHT: u64 = 8;
-
-// A count, and the six.
-pub const SETTINGS: u64 = 9;
-
-pub fn row_width(which: u64) -> usize
-    ensures { result ≡ get_or widths which 1 }
-{
-    match which {
-        0 => MACHINE_WIDTH,
-        1 => COMMITTEE_WIDTH,
-        2 => BOUNDARY_WIDTH,
-        3 => ROTATION_WIDTH,
-        4 => RESHAPE_WIDTH,
-        5 => 1,
-        6 => SEAT_WIDTH,
-        _ => 1,
+    #[tactic(auto, unfolding(crate::specs::Tables::section_of))]
+    fn try_from(number: u64) -> Result<Section, NoSuchSection> {
+        match number {
+            0 => Ok(Section::Machines),
+            1 => Ok(Section::Committees),
+            2 => Ok(Section::Boundaries),
+            3 => Ok(Section::Rotations),
+            4 => Ok(Section::Reshapes),
+            5 => Ok(Section::Members),
+            6 => Ok(Section::Seats),
+            7 => Ok(Section::Left),
+            8 => Ok(Section::Right),
+            9 => Ok(Section::Settings),
+            _ => Err(NoSuchSection(number)),
+        }
     }
 }
 
-// Where a table stands: so many words from a place on; none where there is no such table.
+// So many words from a place on.
 #[derive(Clone, Copy)]
 pub struct Span {
     pub at: usize,
     pub size: usize,
 }
 
-fn in_committee(j: usize) -> Span
-    ensures { (result ≡ members_span j) × (result.at + result.size ≤ board_size) }
+#[tactic(auto, unfolding(crate::specs::Tables::members_span))]
+fn in_committee(j: usize) -> Option<Span>
+    ensures place { result ≡ members_span j }
+    ensures within { IfSome result (λ s. s.at + s.size ≤ board_size) }
 {
-    if j < MOST_COMMITTEES {
-        return Span {
-            at: COMMITTEES_AT + 1 + j * COMMITTEE_WIDTH + MEMBERS_AT,
-            size: MEMBERS_SIZE,
-        };
+    if MOST_COMMITTEES <= j {
+        return None;
     }
-    Span { at: 0, size: 0 }
+    Some(Span {
+        at: COMMITTEES_AT + 1 + j * COMMITTEE_WIDTH + MEMBERS_AT,
+        size: MEMBERS_SIZE,
+    })
 }
 
-fn in_reshape(j: usize, at: usize, size: usize) -> Span
+#[tactic(auto, unfolding(crate::specs::Tables::reshape_span))]
+fn in_reshape(j: usize, at: usize, size: usize) -> Option<Span>
     requires { at + size ≤ reshape_width }
-    ensures { (result ≡ reshape_span j at size) × (result.at + result.size ≤ board_size) }
+    ensures place { result ≡ reshape_span j at size }
+    ensures within { IfSome result (λ s. s.at + s.size ≤ board_size) }
 {
-    if j < MOST_RESHAPES {
-        return Span {
-            at: RESHAPES_AT + 1 + j * RESHAPE_WIDTH + at,
-            size: size,
-        };
+    if MOST_RESHAPES <= j {
+        return None;
     }
-    Span { at: 0, size: 0 }
+    Some(Span {
+        at: RESHAPES_AT + 1 + j * RESHAPE_WIDTH + at,
+        size,
+    })
 }
 
-fn span_of(which: u64, j: usize) -> Span
-    ensures { (result ≡ span_of which j) × (result.at + result.size ≤ board_size) }
+fn between(at: usize, end: usize) -> Span
+    requires { at ≤ end }
+    ensures { result ≡ span at (end - at) }
 {
-    match which {
-        0 => Span {
-            at: MACHINES_AT,
-            size: COMMITTEES_AT - MACHINES_AT,
-        },
-        1 => Span {
-            at: COMMITTEES_AT,
-            size: BOUNDS_AT - COMMITTEES_AT,
-        },
-        2 => Span {
-            at: BOUNDS_AT,
-            size: ROTATIONS_AT - BOUNDS_AT,
-        },
-        3 => Span {
-            at: ROTATIONS_AT,
-            size: RESHAPES_AT - ROTATIONS_AT,
-        },
-        4 => Span {
-            at: RESHAPES_AT,
-            size: BOARD_SIZE - RESHAPES_AT,
-        },
-        5 => in_committee(j),
-        6 => in_reshape(j, SEATS_AT, SEATS_SIZE),
-        7 => in_reshape(j, LEFT_AT, HALF_SIZE),
-        8 => in_reshape(j, RIGHT_AT, HALF_SIZE),
-        9 => Span {
-            at: 0,
-            size: MACHINES_AT,
-        },
-        _ => Span { at: 0, size: 0 },
+    Span { at, size: end - at }
+}
+
+impl Section {
+    #[tactic(auto, unfolding(crate::specs::Tables::width_of))]
+    pub fn row_width(self) -> usize
+        ensures { result ≡ width_of self }
+    {
+        match self {
+            Section::Machines => MACHINE_WIDTH,
+            Section::Committees => COMMITTEE_WIDTH,
+            Section::Boundaries => BOUNDARY_WIDTH,
+            Section::Rotations => ROTATION_WIDTH,
+            Section::Reshapes => RESHAPE_WIDTH,
+            Section::Seats => SEAT_WIDTH,
+            Section::Members | Section::Left | Section::Right | Section::Settings => 1,
+        }
+    }
+
+    // Where the table stands; none past the last row that has such a table.
+    #[tactic(auto, unfolding(crate::specs::Tables::span_of))]
+    fn span(self, j: usize) -> Option<Span>
+        ensures place { result ≡ span_of self j }
+        ensures within { IfSome result (λ s. s.at + s.size ≤ board_size) }
+    {
+        match self {
+            Section::Machines => Some(between(MACHINES_AT, COMMITTEES_AT)),
+            Section::Committees => Some(between(COMMITTEES_AT, BOUNDS_AT)),
+            Section::Boundaries => Some(between(BOUNDS_AT, ROTATIONS_AT)),
+            Section::Rotations => Some(between(ROTATIONS_AT, RESHAPES_AT)),
+            Section::Reshapes => Some(between(RESHAPES_AT, BOARD_SIZE)),
+            Section::Members => in_committee(j),
+            Section::Seats => in_reshape(j, SEATS_AT, SEATS_SIZE),
+            Section::Left => in_reshape(j, LEFT_AT, HALF_SIZE),
+            Section::Right => in_reshape(j, RIGHT_AT, HALF_SIZE),
+            Section::Settings => Some(between(0, MACHINES_AT)),
+        }
+    }
+
+    // Inside row j where the table stands in one.
+    pub fn table(self, board: &[u64], j: usize) -> &[u64]
+        requires { length board.now ≡ board_size }
+        ensures { result.now ≡ table_in self j board.now }
+    {
+        match self.span(j) {
+            Some(s) => &board[s.at..s.at + s.size],
+            None => &[],
+        }
     }
 }
 
-// Inside row j where the table stands in one.
+// ---- by a table's number, of which any is allowed
+
+#[tactic(auto, unfolding(crate::specs::Tables::width_with))]
+pub fn row_width(which: u64) -> usize
+    ensures { result ≡ width_at which }
+{
+    match Section::try_from(which) {
+        Ok(section) => section.row_width(),
+        Err(_) => 1,
+    }
+}
+
+#[tactic(auto, unfolding(crate::specs::Tables::table_with))]
 pub fn table(board: &[u64], which: u64, j: usize) -> &[u64]
     requires { length board.now ≡ board_size }
-    ensures { result.now ≡ table_in which j board.now }
+    ensures { result.now ≡ table_at which j board.now }
 {
-    let s = span_of(which, j);
-    let at = s.at;
-    let e = at + s.size;
-    &board[at..e]
+    match Section::try_from(which) {
+        Ok(section) => section.table(board, j),
+        Err(_) => &[],
+    }
 }
+
+// ---- rows
 
 // Row i of a table of width w; nothing past its room.
 pub fn row(t: &[u64], w: usize, i: usize) -> &[u64]
     ensures { result.now ≡ row_in w i t.now }
 {
-    if t.len() == 0 {
-        return &t[..0];
+    if t.is_empty() {
+        return &[];
     }
     if w == 0 {
-        return &t[..0];
+        return &[];
     }
     if (t.len() - 1) / w <= i {
-        return &t[..0];
+        return &[];
     }
     let s = 1 + i * w;
     let e = s + w;
@@ -152,12 +195,9 @@ pub fn row(t: &[u64], w: usize, i: usize) -> &[u64]
 pub fn ids(t: &[u64]) -> &[u64]
     ensures { result.now ≡ ids_in t.now }
 {
-    if t.len() == 0 {
-        return &t[..0];
-    }
-    let n = t[0] as usize;
+    let n = number_at(t, 0) as usize;
     if t.len() <= n {
-        return &t[..0];
+        return &[];
     }
     let e = n + 1;
     &t[1..e]
@@ -169,10 +209,10 @@ pub fn count_with(t: &[u64], w: usize, k: usize, x: u64) -> usize
 {
     let all = number_at(t, 0) as usize;
     let mut n: usize = 0;
-    let mut i: usize = 0;
-    while i < all {
-        n += machines::bit(number_at(row(t, w, i), k) == x) as usize;
-        i += 1;
+    for i in 0..all {
+        if number_at(row(t, w, i), k) == x {
+            n += 1;
+        }
     }
     n
 }

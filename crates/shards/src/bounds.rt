@@ -48,19 +48,14 @@ pub fn place_of(ws: &[u64], shard: ShardId) -> usize
     )
 }
 
-// The row of a boundary as a cut makes it.
-fn store_new(t: &mut [u64], shard: ShardId, height: BlockHeight, epoch: Epoch)
-    requires { (length t.old ≡ boundary_width) × (epoch.0 ≤ last_epoch) }
-    ensures { t.new ≡ boundary_words (entry shard.0 (new_boundary height.0 epoch.0)) }
+// The row of a boundary as a cut makes it: formed in the next epoch, with no marks.
+#[tactic(auto, unfolding(rules::specs::Snapshot::boundary_words, rules::specs::Snapshot::flag_of, rules::specs::Snapshot::value_of))]
+fn new_row(shard: ShardId, height: BlockHeight, epoch: Epoch) -> [u64; BOUNDARY_WIDTH]
+    requires { epoch.0 ≤ last_epoch }
+    ensures { result ≡ boundary_words (entry shard.0 (new_boundary height.0 epoch.0)) }
 {
-    t[0] = shard.0;
-    t[1] = height.0;
-    t[2] = epoch.0 + 1;
-    t[3] = epoch.0;
-    t[4] = 0;
-    t[5] = 0;
-    t[6] = 0;
-    t[7] = 0;
+    let formed = epoch.0 + 1;
+    [shard.0, height.0, formed, epoch.0, 0, 0, 0, 0]
 }
 
 // The row gets the terminal and the admitted epoch.
@@ -83,7 +78,7 @@ pub fn renew(ws: &mut [u64], i: usize, shard: ShardId, height: BlockHeight, epoc
 {
     let a = BOUNDS_AT + 1 + i * BOUNDARY_WIDTH;
     let e = a + BOUNDARY_WIDTH;
-    store_new(&mut ws[a..e], shard, height, epoch);
+    ws[a..e].copy_from_slice(&new_row(shard, height, epoch));
 }
 
 // A new boundary more, at i.

@@ -1,5 +1,5 @@
 // The table of rotations, by shard, then victim.
-ghost use Rattle.std.specs.Prelude.{◌≡◌, ◌<◌, ◌≤◌, length, get_or, set};
+ghost use Rattle.std.specs.Prelude.{◌≡◌, ◌<◌, ◌≤◌, length, get_or, set, IfSome};
 ghost use Rattle.rules.specs.Board as rules;
 ghost use Rattle.rules.specs.Board.{Board, most_rotations, on_rotations};
 ghost use Rattle.rules.specs.WellFormed.{rotation_before};
@@ -8,7 +8,7 @@ ghost use Rattle.rules.specs.Snapshot.{rotation_words};
 ghost use Rattle.tables.specs.Rows.{first_where, insert_at, remove_at};
 ghost use Rattle.board.specs.Layout.{board_size, rotation_width};
 ghost use Rattle.board.specs.Held.{Holds, no_rotation};
-ghost use Rattle.shards.specs.Rotations.{rotation_of};
+ghost use Rattle.shards.specs.Rotations.{rotation_of, found_where};
 
 use board::layout::{MOST_ROTATIONS, RESHAPES_AT, ROTATION_WIDTH, ROTATIONS_AT};
 use types::{Epoch, ShardId, ValidatorId};
@@ -35,18 +35,11 @@ fn load(t: &[u64]) -> Rotation
     }
 }
 
-fn store(t: &mut [u64], r: Rotation)
-    requires { length t.old ≡ rotation_width }
-    ensures { t.new ≡ rotation_words (rotation_of r) }
+#[tactic(auto, unfolding(rules::specs::Snapshot::rotation_words))]
+fn row(r: Rotation) -> [u64; ROTATION_WIDTH]
+    ensures { result ≡ rotation_words (rotation_of r) }
 {
-    let shard = r.shard;
-    let victim = r.victim;
-    let entrant = r.entrant;
-    let opened = r.opened;
-    t[0] = shard.0;
-    t[1] = victim.0;
-    t[2] = entrant.0;
-    t[3] = opened.0;
+    [r.shard.0, r.victim.0, r.entrant.0, r.opened.0]
 }
 
 // ---- the table
@@ -83,19 +76,14 @@ pub fn rows(ws: &[u64]) -> usize
 fn is_before(shard: ShardId, victim: ValidatorId, q: Rotation) -> bool
     ensures { (p : rules.Rotation) → p.shard ≡ shard.0 → p.victim ≡ victim.0 → result ≡ rotation_before p (rotation_of q) }
 {
-    let there = q.shard;
-    let other = q.victim;
-    (shard.0 < there.0) | ((shard.0 == there.0) & (victim.0 < other.0))
+    (shard < q.shard) | ((shard == q.shard) & (victim < q.victim))
 }
 
 // The rotation is on the shard, and the machine is its victim or its entrant.
 fn has_party(shard: ShardId, id: ValidatorId, q: Rotation) -> bool
     ensures { result ≡ has_party shard.0 id.0 (rotation_of q) }
 {
-    let there = q.shard;
-    let victim = q.victim;
-    let entrant = q.entrant;
-    (there.0 == shard.0) & ((victim.0 == id.0) | (entrant.0 == id.0))
+    (q.shard == shard) & ((q.victim == id) | (q.entrant == id))
 }
 
 // Where a rotation of the shard and the victim goes.
@@ -105,30 +93,27 @@ pub fn place_for(ws: &[u64], shard: ShardId, victim: ValidatorId) -> usize
         result ≡ first_where (rotation_before p) b.rotations) }
 {
     let n = rows(ws);
-    let mut i: usize = 0;
-    while i < n {
+    for i in 0..n {
         if is_before(shard, victim, at(ws, i)) {
             return i;
         }
-        i += 1;
     }
     n
 }
 
-// The first rotation of the shard that the machine is a party of; past the end where there is none.
-pub fn first_party(ws: &[u64], shard: ShardId, id: ValidatorId) -> usize
+// The first rotation of the shard that the machine is a party of.
+pub fn find_party(ws: &[u64], shard: ShardId, id: ValidatorId) -> Option<usize>
     requires { length ws.now ≡ board_size }
-    ensures { (result ≤ most_rotations) × ((b : Board) → Holds ws.now b → result ≡ first_where (has_party shard.0 id.0) b.rotations) }
+    ensures room { IfSome result (λ i. i < most_rotations) }
+    ensures found { (b : Board) → Holds ws.now b → result ≡ found_where (has_party shard.0 id.0) b.rotations }
 {
     let n = rows(ws);
-    let mut i: usize = 0;
-    while i < n {
+    for i in 0..n {
         if has_party(shard, id, at(ws, i)) {
-            return i;
+            return Some(i);
         }
-        i += 1;
     }
-    n
+    None
 }
 
 pub fn put(ws: &mut [u64], i: usize, r: Rotation)
@@ -137,7 +122,7 @@ pub fn put(ws: &mut [u64], i: usize, r: Rotation)
 {
     let a = ROTATIONS_AT + 1 + i * ROTATION_WIDTH;
     let e = a + ROTATION_WIDTH;
-    store(&mut ws[a..e], r);
+    ws[a..e].copy_from_slice(&row(r));
 }
 
 // A rotation more, at i.

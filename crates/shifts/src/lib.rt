@@ -4,7 +4,9 @@
 ghost use Rattle.std.specs.Prelude.{◌≡◌, List, ◌++◌, ℕ, ◌+◌, ◌≤◌, length, take, replicate};
 ghost use Rattle.shifts.specs.Moved.{moved_up, moved_down, moved_to};
 
-// ---- Eight words at a time: all are read before one is written
+// ---- Eight words at a time, all read before one is written: faster than word by word (docs/SPEED.md), and the library copies no words
+// within a slice. Each word by itself, which becomes moves of many words: with `copy_from_slice` they go through the stack, and moving
+// rows takes more than twice as long.
 
 fn eight(t: &[u64]) -> [u64; 8]
     requires { 8 ≤ length t.now }
@@ -33,11 +35,11 @@ fn move_eight(t: &mut [u64], from: usize, to: usize)
     ensures { t.new ≡ moved_to t.old from to 8 }
 {
     let words = eight(&t[from..]);
-    let e = to + 8;
-    put_eight(&mut t[to..e], words);
+    put_eight(&mut t[to..to + 8], words);
 }
 
-// As many eights as there are, the last one first: the place of the last word that is still to move.
+// As many eights as there are, the last one first: the place of the last word that is still to move. A `while`, since it goes by eights and
+// tells where it stops.
 fn shift_up_eights(t: &mut [u64], from: usize, to: usize, by: usize) -> usize
     requires { (from ≤ to) × (to + by ≤ length t.old) }
     ensures { (from ≤ result) × (result ≤ to) × (t.new ≡ moved_up t.old result to by) }
@@ -70,9 +72,7 @@ fn shift_up(t: &mut [u64], from: usize, to: usize, by: usize)
     requires { (from ≤ to) × (to + by ≤ length t.old) }
     ensures { t.new ≡ moved_up t.old from to by }
 {
-    let mut k = shift_up_eights(t, from, to, by);
-    while from < k {
-        k -= 1;
+    for k in (from..shift_up_eights(t, from, to, by)).rev() {
         t[k + by] = t[k];
     }
 }
@@ -82,21 +82,15 @@ pub fn shift_down(t: &mut [u64], from: usize, to: usize, by: usize)
     requires { (by ≤ from) × (from ≤ to) × (to ≤ length t.old) }
     ensures { t.new ≡ moved_down t.old from to by }
 {
-    let mut k = shift_down_eights(t, from, to, by);
-    while k < to {
+    for k in shift_down_eights(t, from, to, by)..to {
         t[k - by] = t[k];
-        k += 1;
     }
 }
 
 pub fn clear(t: &mut [u64])
     ensures { t.new ≡ replicate (length t.old) 0 }
 {
-    let mut i = 0;
-    while i < t.len() {
-        t[i] = 0;
-        i += 1;
-    }
+    t.fill(0);
 }
 
 // A gap of `by` zeros at `from`: the words from there to `to` are after it.

@@ -1,5 +1,5 @@
 -- What a write leaves.
-use Rattle.std.specs.Prelude.{ℕ, ◌<◌, ◌≤◌, ◌≡◌, List, ◌++◌, true, length, drop}
+use Rattle.std.specs.Prelude.{ℕ, ◌<◌, ◌≤◌, ◌≡◌, List, ◌++◌, true, length, drop, Result, Ok, Err}
 use Rattle.types.specs.declared.Answer.{Answer}
 use Rattle.types.specs.declared.Answer.TheVariants.{Done, NotWellFormed, NoRoom}
 use Rattle.rules.specs.Board.{Board}
@@ -18,3 +18,16 @@ pub data Written (ws before : List ℕ) (long : ℕ) (after : List ℕ) (longer 
   -- 0: the snapshot and its length; the bytes past it as before
   written : (b : Board) → Holds ws b → well_formed b ≡ true → length (snapshot_of b) ≤ length before → r ≡ Done
       → after ≡ snapshot_of b ++ drop (length (snapshot_of b)) before → longer ≡ length (snapshot_of b) → Written ws before long after longer r
+
+-- what a write by a result answers, and the length beside
+abbrev pub answer_of : {A : Type 0} → Result A Answer → Answer
+answer_of (Ok x) = Done
+answer_of (Err a) = a
+
+abbrev pub length_of : ℕ → Result ℕ Answer → ℕ
+length_of long (Ok n) = n
+length_of long (Err a) = long
+
+-- the same of the result r, whatever the length before
+abbrev pub WrittenAs : List ℕ → List ℕ → List ℕ → Result ℕ Answer → Type 0
+WrittenAs ws before after r = (long : ℕ) → Written ws before long after (length_of long r) (answer_of r)

@@ -1,2 +1,4 @@
 pub mod Same
 pub mod Named
+mod Turns
+pub mod Numbers

@@ -2,7 +2,7 @@
 #![tactic(auto)]
 
 ghost use Rattle.std.specs.Prelude.{◌≡◌, ◌≤◌};
-ghost use Rattle.steps.specs.Inner.{outcome};
+ghost use Rattle.steps.specs.Inner.{outcome, step_told};
 
 use types::{Answer, Outcome};
 
@@ -10,7 +10,7 @@ pub fn refusal(answer: Answer) -> Outcome
     ensures { result ≡ outcome answer 0 0 }
 {
     Outcome {
-        answer: answer,
+        answer,
         handled: 0,
         draws_used: 0,
     }
@@ -21,8 +21,18 @@ pub fn done(handled: u64, used: u64) -> Outcome
 {
     Outcome {
         answer: Answer::Done,
-        handled: handled,
+        handled,
         draws_used: used,
+    }
+}
+
+// What a step tells that is written with `?`: a refusal handles nothing and draws nothing.
+pub fn told(step: Result<Outcome, Answer>) -> Outcome
+    ensures { result ≡ step_told step }
+{
+    match step {
+        Ok(outcome) => outcome,
+        Err(answer) => refusal(answer),
     }
 }
 
@@ -30,8 +40,5 @@ pub fn done(handled: u64, used: u64) -> Outcome
 pub fn rows_within(n: usize, most: usize) -> usize
     ensures { (result ≤ most) × (n ≤ most → result ≡ n) }
 {
-    if most < n {
-        return most;
-    }
-    n
+    n.min(most)
 }

@@ -1,10 +1,11 @@
 -- The row that reading finds at a place is the row that stands there.
-use Prim.Native.Nat.{ℕ, zero, suc, ◌+◌}
+use Prim.Native.Nat.{ℕ, ◌+◌}
 use mathlib.Core.Path.{◌≡◌, refl, ap, sym, ◌∙◌}
 use mathlib.Core.List.{List, [], ◌∷◌, ◌++◌, append-nil}
 use mathlib.Core.Logic.{◌⊎◌, inl, inr}
 use mathlib.Core.Bool.{Bool, true, false, cond, false≢true}
 use native.Mathlib.Omega.{arith}
+use Rattle.std.specs.Prelude.{Option, None, Some}
 use lib.ListN.{length, take, drop, take-append-drop}
 use lib.Seq.{take_at, drop-drop}
 use Rattle.types.specs.Numbers.{Id}
@@ -72,10 +73,10 @@ row_read Reshapes x rest h = reshape_read x rest h
 -- ---- where a row ends, told and computed
 
 -- two that are told of one place are one
-pub told_one : (k : RowKind) (last : Bool) (ws : List ℕ) (at r s : ℕ) → TellsRow k last ws at r → TellsRow k last ws at s → r ≡ s
-told_one k last ws at zero zero p q = refl
-told_one k last ws at zero (suc s) p q = p.held (suc s) (q.yes (omega arith))
-told_one k last ws at (suc r) s p q = sym (q.held (suc r) (p.yes (omega arith)))
+pub told_one : (k : RowKind) (last : Bool) (ws : List ℕ) (at : ℕ) (r s : Option ℕ) → TellsRow k last ws at r → TellsRow k last ws at s → r ≡ s
+told_one k last ws at None None p q = refl
+told_one k last ws at None (Some s) p q = p.held s q.yes
+told_one k last ws at (Some r) s p q = sym (q.held r p.yes)
 
 module _ (k : RowKind) (last : Bool) (ws : List ℕ) (at : ℕ) where
   found : RowOf k
@@ -118,15 +119,15 @@ module _ (k : RowKind) (last : Bool) (ws : List ℕ) (at : ℕ) where
   unfolding found row_end
   row_end_tells = go (row_good k last found (drop at ws)) refl
     where
-      go : (c : Bool) → row_good k last found (drop at ws) ≡ c → TellsRow k last ws at (cond c (at + length (snap_row k found)) 0)
+      go : (c : Bool) → row_good k last found (drop at ws) ≡ c → TellsRow k last ws at (cond c (Some (at + length (snap_row k found))) None)
       go true h = record {
-        yes = λ _. stands h;
-        held = λ e p. ap (λ (x : RowOf k). at + length (snap_row k x)) (found_is e p) ∙ sym p.next;
+        yes = stands h;
+        held = λ e p. ap Some (ap (λ (x : RowOf k). at + length (snap_row k x)) (found_is e p) ∙ sym p.next);
       }
       go false h = record {
-        yes = λ z. absurd (omega arith);
+        yes = tt;
         held = λ e p. absurd (false≢true (sym h ∙ ap (λ (x : RowOf k). row_good k last x (drop at ws)) (found_is e p) ∙ passes e p));
       }
 
-  pub row_end_is : (r : ℕ) → TellsRow k last ws at r → r ≡ row_end k last ws at
+  pub row_end_is : (r : Option ℕ) → TellsRow k last ws at r → r ≡ row_end k last ws at
   row_end_is r p = told_one k last ws at r (row_end k last ws at) p row_end_tells

@@ -1,5 +1,6 @@
 -- Where the reading of a snapshot stops: at the first word of the first setting, count or row that is not good.
-use Rattle.std.specs.Prelude.{ℕ, zero, suc, ◌+◌, ◌*◌, ◌/◌, ◌%◌, Bool, true, false, cond, List, [], ◌∷◌, eqb, leb, ltb, length, get_or, take, drop}
+-- A reading is `Ok a` where all is good up to a, and `Err a` where what begins at a is not.
+use Rattle.std.specs.Prelude.{ℕ, zero, suc, ◌+◌, ◌*◌, ◌/◌, ◌%◌, Bool, true, false, cond, List, [], ◌∷◌, eqb, leb, ltb, length, get_or, take, drop, Option, None, Some, Result, Ok, Err}
 use Rattle.rules.specs.Lists.{◌and◌, ◌or◌, equal}
 use Rattle.rules.specs.Board.{last_epoch, most_machines, most_committees, most_bounds, most_rotations, most_reshapes}
 use Rattle.rules.specs.WellFormed.{within}
@@ -10,8 +11,6 @@ use Rattle.word_tests.specs.Tests.{rises}
 use Rattle.row_tests.specs.Rows.{in_pairs}
 use Rattle.unpacking.specs.Unpacked.{RowOf, full_row, snap_row}
 use Rattle.reading.specs.Stream.{good_of}
-use Rattle.stops.specs.declared.Reading.{Reading}
-use Rattle.stops.specs.declared.Reading.TheVariants.{Ended, Stopped}
 
 -- ---- rows
 
@@ -32,20 +31,25 @@ row_good k last x ws =
     good_of k x
     and (equal (snap_row k x) (take (length (snap_row k x)) ws) and (last or rises (in_pairs k) (full_row k x) (drop (length (snap_row k x)) ws)))
 
--- where the good row at a place ends; 0 where there is none
-unfoldable pub row_end : RowKind → Bool → List ℕ → ℕ → ℕ
-row_end k last ws at = cond (row_good k last (row_at k (drop at ws)) (drop at ws)) (at + length (snap_row k (row_at k (drop at ws)))) 0
+-- where the good row at a place ends, if there is one
+unfoldable pub row_end : RowKind → Bool → List ℕ → ℕ → Option ℕ
+row_end k last ws at = cond (row_good k last (row_at k (drop at ws)) (drop at ws)) (Some (at + length (snap_row k (row_at k (drop at ws))))) None
 
 -- ---- sections
 
+-- the rows after the one at a, if it is good
+abbrev pub from_row : Option ℕ → ℕ → (ℕ → Result ℕ ℕ) → Result ℕ ℕ
+from_row None a others = Err a
+from_row (Some e) a others = others e
+
 -- n rows from a on
-unfoldable pub rows_reading : RowKind → List ℕ → ℕ → ℕ → Reading
-rows_reading k ws zero a = Ended a
-rows_reading k ws (suc n) a = cond (eqb (row_end k (eqb (suc n) 1) ws a) 0) (Stopped a) (rows_reading k ws n (row_end k (eqb (suc n) 1) ws a))
+unfoldable pub rows_reading : RowKind → List ℕ → ℕ → ℕ → Result ℕ ℕ
+rows_reading k ws zero a = Ok a
+rows_reading k ws (suc n) a = from_row (row_end k (eqb (suc n) 1) ws a) a (rows_reading k ws n)
 
 -- a count within its limit, and as many rows
-unfoldable pub section_reading : RowKind → ℕ → List ℕ → ℕ → Reading
-section_reading k cap ws at = cond (ltb at (length ws) and leb (get_or ws at 0) cap) (rows_reading k ws (get_or ws at 0) (at + 1)) (Stopped at)
+unfoldable pub section_reading : RowKind → ℕ → List ℕ → ℕ → Result ℕ ℕ
+section_reading k cap ws at = cond (ltb at (length ws) and leb (get_or ws at 0) cap) (rows_reading k ws (get_or ws at 0) (at + 1)) (Err at)
 
 -- ---- the settings
 
@@ -54,24 +58,24 @@ unfoldable pub setting_tests : List (ℕ → Bool)
 setting_tests =
     (λ n. eqb n 6) ∷ (λ n. leb n last_epoch) ∷ (λ n. within 4 32 n) ∷ (λ n. leb n 1000000) ∷ (λ n. leb n 1000000) ∷ (λ n. within 1 1000000 n) ∷ (λ n. leb n 48) ∷ []
 
-unfoldable pub tests_reading : List (ℕ → Bool) → ℕ → List ℕ → Reading
-tests_reading [] i ws = Ended i
-tests_reading (f ∷ fs) i [] = Stopped i
-tests_reading (f ∷ fs) i (n ∷ ws) = cond (f n) (tests_reading fs (i + 1) ws) (Stopped i)
+unfoldable pub tests_reading : List (ℕ → Bool) → ℕ → List ℕ → Result ℕ ℕ
+tests_reading [] i ws = Ok i
+tests_reading (f ∷ fs) i [] = Err i
+tests_reading (f ∷ fs) i (n ∷ ws) = cond (f n) (tests_reading fs (i + 1) ws) (Err i)
 
 -- ---- the whole
 
 -- what is read next, unless reading has stopped
-unfoldable pub go_on : Reading → (ℕ → Reading) → Reading
-go_on (Ended a) next = next a
-go_on (Stopped a) next = Stopped a
+unfoldable pub go_on : Result ℕ ℕ → (ℕ → Result ℕ ℕ) → Result ℕ ℕ
+go_on (Ok a) next = next a
+go_on (Err a) next = Err a
 
 -- good as far as a, and that is the end or it is not
-unfoldable pub ended_at : Bool → ℕ → Reading
-ended_at true a = Ended a
-ended_at false a = Stopped a
+unfoldable pub ended_at : Bool → ℕ → Result ℕ ℕ
+ended_at true a = Ok a
+ended_at false a = Err a
 
-unfoldable pub words_reading : List ℕ → Reading
+unfoldable pub words_reading : List ℕ → Result ℕ ℕ
 words_reading ws =
     let m = tests_reading setting_tests 0 ws in
     let c = go_on m (section_reading Machines most_machines ws) in
@@ -86,13 +90,13 @@ unfoldable pub whole_words : List ℕ → List ℕ
 whole_words bytes = let whole = take (length bytes / 8 * 8) bytes in read_words (length whole / 8) whole
 
 -- bytes after the last whole word are not good
-unfoldable pub reading_of : List ℕ → Reading
+unfoldable pub reading_of : List ℕ → Result ℕ ℕ
 reading_of bytes = go_on (words_reading (whole_words bytes)) (λ a. ended_at (eqb (length bytes % 8) 0) a)
 
-abbrev pub is_ended : Reading → Bool
-is_ended (Ended a) = true
-is_ended (Stopped a) = false
+abbrev pub is_ended : Result ℕ ℕ → Bool
+is_ended (Ok a) = true
+is_ended (Err a) = false
 
-abbrev pub place_in : Reading → ℕ
-place_in (Ended a) = a
-place_in (Stopped a) = a
+abbrev pub place_in : Result ℕ ℕ → ℕ
+place_in (Ok a) = a
+place_in (Err a) = a

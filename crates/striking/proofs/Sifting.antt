@@ -2,15 +2,16 @@
 use Prim.Native.Nat.{ℕ, ◌+◌, ◌-◌, ◌*◌, ◌≤◌, ◌<◌}
 use mathlib.Core.Path.{◌≡◌, refl, ap, sym, ◌∙◌}
 use mathlib.Core.List.{List, ◌++◌}
+use mathlib.Core.Option.{none}
 use mathlib.Core.Bool.{Bool, true}
 use native.Mathlib.Omega.{arith}
 use borrow.Rule.Slice.PartMut.{put_mid}
 use lib.ListN.{length, get_or, set, take, drop, length-drop, length-set, take-append-drop}
 use lib.Seq.{set-set, set-get_or, get_or-set_same, length-take-le}
-use Rattle.types.specs.Numbers.{Id}
+use Rattle.types.specs.Numbers.{Shard, Id}
 use Rattle.rules.specs.Lists.{bit_of, keep}
-use Rattle.rules.specs.Table.{Entry, entry, Table, update}
-use Rattle.rules.specs.Board.{Board, most_committees, most_members, on_committees}
+use Rattle.rules.specs.Table.{Entry, entry, Table, at, update}
+use Rattle.rules.specs.Board.{Board, most_members, on_committees}
 use Rattle.rules.specs.WellFormed.{well_formed}
 use Rattle.shifts.proofs.Parts.{Spot, spot_store}
 use Rattle.tables.proofs.Keys.{update_none}
@@ -21,7 +22,6 @@ use Rattle.board.specs.Leaves.{change_at}
 use Rattle.board.proofs.Fitting.{held_as}
 use Rattle.board.proofs.Keyed.{committees_rise, update_is_change}
 use Rattle.board.proofs.OfCommittees.{members_room, members_lent, members_back}
-use Rattle.rows.specs.Found.{Found}
 
 -- a store in a part is a store in the whole
 part_stored : (ws : List ℕ) (a n c v : ℕ) → a + n ≤ length ws → c < n → set ws (a + c) v ≡ put_mid a n ws (set (take n (drop a ws)) c v)
@@ -105,10 +105,11 @@ module _ (f : Id → Bool) (b : Board) (j : ℕ) (l : j < length b.committees) (
 
 -- ---- the shard's committee, at the row that was found
 
-module _ (b : Board) (s j : ℕ) (f : Found most_committees s no_committee b.committees j) (g : List Id → List Id) (after : List ℕ) where
-  pub no_committee_lem : most_committees ≤ j → Holds after b → Holds after (on_committees (update s g) b)
-  no_committee_lem l h = held_as after _ _ (ap (λ (t : Table (List Id)). on_committees (λ _. t) b) (sym (update_none s g b.committees (f.missing l)))) h
+module _ (b : Board) (s : Shard) (g : List Id → List Id) (after : List ℕ) where
+  pub no_committee_lem : at s b.committees ≡ none → Holds after b → Holds after (on_committees (update s g) b)
+  no_committee_lem n h = held_as after _ _ (ap (λ (t : Table (List Id)). on_committees (λ _. t) b) (sym (update_none s g b.committees n))) h
 
-  pub committee_changed : well_formed b ≡ true → j < most_committees → Holds after (on_committees (change_at no_committee j g) b) → Holds after (on_committees (update s g) b)
-  committee_changed ok l h =
-      held_as after _ _ (ap (λ (t : Table (List Id)). on_committees (λ _. t) b) (sym (update_is_change b.committees (committees_rise b ok) s j no_committee (f.inside l) (f.named l) g))) h
+  pub committee_changed : well_formed b ≡ true → (j : ℕ) → j < length b.committees → (get_or b.committees j no_committee).key ≡ s → Holds after (on_committees (change_at no_committee j g) b)
+      → Holds after (on_committees (update s g) b)
+  committee_changed ok j l k h =
+      held_as after _ _ (ap (λ (t : Table (List Id)). on_committees (λ _. t) b) (sym (update_is_change b.committees (committees_rise b ok) s j no_committee l k g))) h

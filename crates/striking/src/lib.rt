@@ -11,11 +11,8 @@ ghost use Rattle.board.specs.Layout.{board_size};
 ghost use Rattle.board.specs.Held.{Holds, no_committee, no_reshape};
 ghost use Rattle.board.specs.Leaves.{change_at};
 
-use board::layout::{
-    COMMITTEE_WIDTH, COMMITTEES_AT, MEMBERS_AT, MEMBERS_SIZE, MOST_COMMITTEES, MOST_MEMBERS,
-    MOST_SEATS,
-};
-use board::{committees, machines};
+use board::committees;
+use board::layout::{COMMITTEE_WIDTH, COMMITTEES_AT, MEMBERS_AT, MEMBERS_SIZE, MOST_MEMBERS};
 use reshapes::seats;
 use types::{ShardId, ValidatorId};
 
@@ -49,7 +46,7 @@ fn has_seat(board: &[u64], i: usize, id: ValidatorId) -> bool
     ensures { (b : Board) → Holds board.now b → i < length b.reshapes → Rising key_of (get_or b.reshapes i no_reshape).val.seats →
         result ≡ stands id.0 (get_or b.reshapes i no_reshape).val.seats }
 {
-    seats::row_of(board, i, id) < MOST_SEATS
+    seats::find(board, i, id).is_some()
 }
 
 // Those of the committee at j with no seat in the reshape at i close ranks, in their order.
@@ -60,13 +57,10 @@ fn keep_unseated(board: &mut [u64], j: usize, i: usize)
 {
     let n = steps::rows_within(committees::member_count(board, j), MOST_MEMBERS);
     let mut k: usize = 0;
-    let mut m: usize = 0;
-    while m < n {
+    for m in 0..n {
         let id = committees::member_at(board, j, m);
         put_member(board, j, k, id);
-        let seated = has_seat(board, i, id);
-        k += machines::bit(!seated) as usize;
-        m += 1;
+        k += usize::from(!has_seat(board, i, id));
     }
     cut_members(board, j, k);
 }
@@ -77,9 +71,8 @@ pub fn strike_seated(board: &mut [u64], shard: ShardId, i: usize)
     ensures { (b : Board) → Holds board.old b → well_formed b ≡ true → i < length b.reshapes →
         Holds board.new (on_committees (update shard.0 (keep (λ x. not (stands x (get_or b.reshapes i no_reshape).val.seats)))) b) }
 {
-    let j = rows::committee_row(board, shard);
-    if MOST_COMMITTEES <= j {
+    let Some(j) = rows::find_committee(board, shard) else {
         return;
-    }
+    };
     keep_unseated(board, j, i);
 }

@@ -2,6 +2,7 @@
 use Prim.Native.Nat.{ℕ, zero, suc, ◌+◌, ◌≤◌, ◌<◌}
 use mathlib.Core.Path.{◌≡◌, refl, ap, sym, ◌∙◌}
 use mathlib.Core.List.{List, [], ◌∷◌}
+use Rattle.std.specs.Prelude.{Some, None}
 use mathlib.Core.Option.{none, some, none-ne-some}
 use mathlib.Core.Bool.{Bool, true, false, cond}
 use native.Mathlib.Omega.{arith}
@@ -17,7 +18,7 @@ use Rattle.rules.specs.Moves.{open_rotation, drop_first}
 use Rattle.rules.proofs.Counts.{Alike, same, apart, alike}
 use Rattle.rules.proofs.Tables.{From, at_below}
 use Rattle.rules.proofs.Tests.{and_parts, eq_of, rising_table}
-use Rattle.tables.specs.Rows.{insert_at, remove_at, Rising, first_where, place_of, row_of, key_of}
+use Rattle.tables.specs.Rows.{insert_at, remove_at, Rising, first_where, place_of, find_row, key_of}
 
 -- ---- the first row that passes a test
 
@@ -139,22 +140,23 @@ module _ {A : Type 0} (key : A → ℕ) where
     row_under n = let a = place_above l i d (key (get_or l m d)) r li (omega arith) in let u = place_under l m d (key (get_or l m d)) lm (omega arith) in omega arith
 
   -- a key that has a row: no other has it
-  pub row_here : (l : List A) (i : ℕ) (d : A) (cap k : ℕ) → Rising key l → i < length l → key (get_or l i d) ≡ k → row_of key cap k l ≡ i
-  row_here l i d cap k r h e =
+  pub finds_here : (l : List A) (i : ℕ) (d : A) (k : ℕ) → Rising key l → i < length l → key (get_or l i d) ≡ k → find_row key k l ≡ Some i
+  finds_here l i d k r h e =
       let f : A → Bool = λ x. eqb (key x) k in
       let m = first_before f l i d h (eq-eqb (key (get_or l i d)) k e) in
       let p : key (get_or l (first_where f l) d) ≡ k = eq_of _ _ (first_passes f l d (omega arith)) in
       let u = place_least l i d k r h e in
       let v = place_under l (first_where f l) d k (omega arith) (omega arith) in
-      rw (lt-ltb (first_where f l) (length l) (omega arith)) (omega arith)
+      let q : first_where f l ≡ i = omega arith in
+      rw (lt-ltb (first_where f l) (length l) (omega arith)) (ap Some q)
 
-  pub row_nowhere : (l : List A) (d : A) (cap k : ℕ) → ((i : ℕ) → i < length l → key (get_or l i d) ≡ k → ⊥) → row_of key cap k l ≡ cap
-  row_nowhere l d cap k n = go (ltb (first_where f l) (length l)) refl
+  pub finds_nowhere : (l : List A) (d : A) (k : ℕ) → ((i : ℕ) → i < length l → key (get_or l i d) ≡ k → ⊥) → find_row key k l ≡ None
+  finds_nowhere l d k n = go (ltb (first_where f l) (length l)) refl
     where
       f : A → Bool
       f x = eqb (key x) k
 
-      go : (c : Bool) → ltb (first_where f l) (length l) ≡ c → cond c (first_where f l) cap ≡ cap
+      go : (c : Bool) → ltb (first_where f l) (length l) ≡ c → cond c (Some (first_where f l)) None ≡ None
       go true e = let h = ltb-true (first_where f l) (length l) e in absurd (n (first_where f l) h (eq_of _ _ (first_passes f l d h)))
       go false e = refl
 

@@ -2,6 +2,7 @@
 use Prim.Native.Nat.{ℕ, zero, suc, ◌≤◌, ◌<◌}
 use mathlib.Core.Path.{◌≡◌, refl, ap, sym, ◌∙◌}
 use mathlib.Core.List.{List, [], ◌∷◌, ◌++◌, map}
+use Rattle.std.specs.Prelude.{Option}
 use mathlib.Core.Bool.{Bool, true, false, cond, not}
 use native.Mathlib.Omega.{arith}
 use lib.Dec.{eqb, leb, ltb}
@@ -12,7 +13,7 @@ use Rattle.rules.specs.WellFormed.{rising}
 use Rattle.rules.specs.Snapshot.{rows_words}
 use Rattle.rules.proofs.Counts.{Alike, same, apart, alike}
 use Rattle.tables.proofs.Tables.{cleared}
-use Rattle.tables.specs.Rows.{table, insert_at, remove_at, Rising, first_where, place_of, row_of, without, Row, words_in, key_in, key_of}
+use Rattle.tables.specs.Rows.{table, insert_at, remove_at, Rising, first_where, place_of, find_row, without, Row, words_in, key_in, key_of}
 
 module _ {A B : Type 0} (g : A → B) where
   map_insert : (xs : List A) (j : ℕ) (y : A) → map g (insert_at xs j y) ≡ insert_at (map g xs) j (g y)
@@ -105,11 +106,11 @@ module _ {A : Type 0} (f : A → List ℕ) (w : ℕ) (fw : (x : A) → length (f
           g (map as_row xs) (e ∙ table_map xs) (omega arith) (rising_map h)
           ∙ map_first as_row (λ x. leb k (key_in x)) (λ x. leb k (key x)) (λ x. rw (first x)) xs
 
-      -- `row_of`
-      pub rowed_as : (k r : ℕ) → length xs ≤ cap → Rising key xs
-          → ((rs : List (Row w)) → t ≡ table words_in w cap rs → length rs ≤ cap → Rising key_in rs → r ≡ row_of key_in cap k rs)
-          → r ≡ row_of key cap k xs
-      rowed_as k r l h g =
+      -- `find_row`
+      pub found_as : (k : ℕ) (r : Option ℕ) → length xs ≤ cap → Rising key xs
+          → ((rs : List (Row w)) → t ≡ table words_in w cap rs → length rs ≤ cap → Rising key_in rs → r ≡ find_row key_in k rs)
+          → r ≡ find_row key k xs
+      found_as k r l h g =
           let n : length (map as_row xs) ≡ length xs = length-map xs as_row in
           g (map as_row xs) (e ∙ table_map xs) (omega arith) (rising_map h) ∙ rw (map_first as_row (λ x. eqb (key_in x) k) (λ x. eqb (key x) k) (λ x. rw (first x)) xs, n)
 

@@ -1,5 +1,5 @@
 -- A table of fixed room in words: how many rows, the rows, and zeros to the end.
-use Rattle.std.specs.Prelude.{ℕ, suc, ◌*◌, ◌≡◌, List, [], ◌∷◌, ◌++◌, Bool, true, cond, not, eqb, leb, ltb, length, get_or, take, drop, replicate}
+use Rattle.std.specs.Prelude.{ℕ, suc, ◌*◌, ◌≡◌, List, [], ◌∷◌, ◌++◌, Bool, true, cond, not, eqb, leb, ltb, length, get_or, take, drop, replicate, Option, None, Some}
 use Rattle.rules.specs.Lists.{keep}
 use Rattle.rules.specs.Table.{Entry}
 use Rattle.rules.specs.WellFormed.{rising}
@@ -38,9 +38,9 @@ module _ {A : Type 0} where
   abbrev pub place_of : (A → ℕ) → ℕ → List A → ℕ
   place_of key k = first_where (λ x. leb k (key x))
 
-  -- the row of a key; cap where it has none
-  abbrev pub row_of : (A → ℕ) → ℕ → ℕ → List A → ℕ
-  row_of key cap k xs = let i = first_where (λ x. eqb (key x) k) xs in cond (ltb i (length xs)) i cap
+  -- the row of a key, where it has one
+  abbrev pub find_row : (A → ℕ) → ℕ → List A → Option ℕ
+  find_row key k xs = let i = first_where (λ x. eqb (key x) k) xs in cond (ltb i (length xs)) (Some i) None
 
   -- without the rows of a key
   abbrev pub without : (A → ℕ) → ℕ → List A → List A

@@ -1,9 +1,9 @@
 // Tables in lent words: a count, rows of any width, and zeros to the end of the room.
 #![tactic(auto)]
 
-ghost use Rattle.std.specs.Prelude.{◌≡◌, List, [], ◌∷◌, ◌++◌, ℕ, ◌+◌, ◌*◌, ◌-◌, ◌<◌, ◌≤◌, not, eqb, length, get_or, take, replicate};
+ghost use Rattle.std.specs.Prelude.{◌≡◌, List, [], ◌∷◌, ◌++◌, ℕ, ◌+◌, ◌*◌, ◌-◌, ◌<◌, ◌≤◌, not, eqb, length, get_or, take, replicate, IfSome};
 ghost use Rattle.rules.specs.Lists.{bit_of, has, strike};
-ghost use Rattle.tables.specs.Rows.{table, id_table, insert_at, remove_at, Rising, place_of, row_of, without, Row, words_in, key_in};
+ghost use Rattle.tables.specs.Rows.{table, id_table, insert_at, remove_at, Rising, place_of, find_row, without, Row, words_in, key_in};
 ghost use Rattle.shifts.specs.Moved.{moved_down};
 
 // ---- Rows of w words, with room for cap of them
@@ -55,11 +55,7 @@ fn rows_within(t: &[u64], cap: usize) -> usize
     requires { 0 < length t.now }
     ensures { (result ≤ cap) × (get_or t.now 0 0 ≤ cap → result ≡ get_or t.now 0 0) }
 {
-    let n = t[0] as usize;
-    if cap < n {
-        return cap;
-    }
-    n
+    (t[0] as usize).min(cap)
 }
 
 // Where the key k stands, or goes, by halves.
@@ -81,10 +77,12 @@ pub fn place_of(t: &[u64], w: usize, cap: usize, k: u64) -> usize
     lo
 }
 
-// The row of the key k, by halves of the n rows from lo on; cap, past every row, where it has none.
-pub fn row_of(t: &[u64], w: usize, cap: usize, k: u64) -> usize
+// The row of the key k, by halves of the n rows from lo on.
+// By hand: the library searches the elements of a slice, and these rows are several words wide.
+pub fn find_row(t: &[u64], w: usize, cap: usize, k: u64) -> Option<usize>
     requires { (length t.now ≡ 1 + cap * w) × (cap < 4096) × (0 < w) × (w < 4096) }
-    ensures { (rs : List (Row w)) → t.now ≡ table words_in w cap rs → length rs ≤ cap → Rising key_in rs → result ≡ row_of key_in cap k rs }
+    ensures room { IfSome result (λ i. i < cap) }
+    ensures found { (rs : List (Row w)) → t.now ≡ table words_in w cap rs → length rs ≤ cap → Rising key_in rs → result ≡ find_row key_in k rs }
 {
     let mut lo: usize = 0;
     let mut n = rows_within(t, cap);
@@ -93,7 +91,7 @@ pub fn row_of(t: &[u64], w: usize, cap: usize, k: u64) -> usize
         let mid = lo + half;
         let there = t[1 + mid * w];
         if there == k {
-            return mid;
+            return Some(mid);
         }
         if there < k {
             lo = mid + 1;
@@ -102,23 +100,22 @@ pub fn row_of(t: &[u64], w: usize, cap: usize, k: u64) -> usize
             n = half;
         }
     }
-    cap
+    None
 }
 
 // The same one row after another: of a few rows the compiler knows each one's place, and no look waits for the count.
-pub fn row_among_few(t: &[u64], w: usize, cap: usize, k: u64) -> usize
+pub fn find_among_few(t: &[u64], w: usize, cap: usize, k: u64) -> Option<usize>
     requires { (length t.now ≡ 1 + cap * w) × (cap < 4096) × (0 < w) × (w < 4096) }
-    ensures { (rs : List (Row w)) → t.now ≡ table words_in w cap rs → length rs ≤ cap → Rising key_in rs → result ≡ row_of key_in cap k rs }
+    ensures room { IfSome result (λ i. i < cap) }
+    ensures found { (rs : List (Row w)) → t.now ≡ table words_in w cap rs → length rs ≤ cap → Rising key_in rs → result ≡ find_row key_in k rs }
 {
     let n = rows_within(t, cap);
-    let mut i: usize = 0;
-    while i < n {
+    for i in 0..n {
         if t[1 + i * w] == k {
-            return i;
+            return Some(i);
         }
-        i += 1;
     }
-    cap
+    None
 }
 
 // Row i goes to place k, unless its key is x: the next place.
@@ -144,10 +141,8 @@ pub fn drop_rows(t: &mut [u64], w: usize, cap: usize, x: u64)
 {
     let n = rows_within(t, cap);
     let mut k: usize = 0;
-    let mut i: usize = 0;
-    while i < n {
+    for i in 0..n {
         k = keep_row(t, w, k, i, x);
-        i += 1;
     }
     let a = 1 + k * w;
     let e = 1 + n * w;
@@ -182,16 +177,15 @@ pub fn push(t: &mut [u64], cap: usize, x: u64)
     t[0] = (n + 1) as u64;
 }
 
+// Every id is looked at, with no way out before the last: so several are compared at a time, which a slice's `contains` does not do.
 pub fn contains(t: &[u64], cap: usize, x: u64) -> bool
     requires { (length t.now ≡ 1 + cap) × (cap < 4096) }
     ensures { (l : List ℕ) → t.now ≡ id_table cap l → length l ≤ cap → result ≡ has x l }
 {
     let n = rows_within(t, cap);
     let mut found = false;
-    let mut i: usize = 0;
-    while i < n {
+    for i in 0..n {
         found = found | (t[1 + i] == x);
-        i += 1;
     }
     found
 }
@@ -221,14 +215,12 @@ pub fn strike_id(t: &mut [u64], cap: usize, x: u64)
 {
     let n = rows_within(t, cap);
     let mut k: usize = 0;
-    let mut i: usize = 0;
-    while i < n {
+    for i in 0..n {
         let y = t[1 + i];
         t[1 + k] = y;
         if y != x {
             k += 1;
         }
-        i += 1;
     }
     cut(t, cap, k);
 }

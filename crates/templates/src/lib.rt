@@ -12,10 +12,7 @@ use lines::{put_number, put_text};
 pub fn number_at(numbers: &[u64], k: usize) -> u64
     ensures { result ≡ get_or numbers.now k 0 }
 {
-    if k < numbers.len() {
-        return numbers[k];
-    }
-    0
+    numbers.get(k).copied().unwrap_or(0)
 }
 
 // Each run of '#' is the next number, right-aligned in a column as wide as the run; '~' passes a number over.
@@ -26,6 +23,7 @@ pub fn fill(line: &mut [u8], at: usize, template: &[u8], numbers: &[u64]) -> usi
     let mut k: usize = 0;
     let mut w: usize = 0;
     let mut i: usize = 0;
+    // Kept: a turn that ends a run goes over no byte, which a loop over the bytes would have to do twice.
     while i < template.len() {
         let b = template[i];
         if b == b'#' {
@@ -53,14 +51,12 @@ fn line_end(text: &[u8], at: usize) -> usize
     requires { at ≤ length text.now }
     ensures { (result ≤ length text.now) × (result ≡ at + length (first_line (drop at text.now))) }
 {
-    let mut e = at;
-    while e < text.len() {
+    for e in at..text.len() {
         if text[e] == b'\n' {
             return e;
         }
-        e += 1;
     }
-    e
+    text.len()
 }
 
 // Line k of a text, from 0 on; nothing past its last.
@@ -68,14 +64,12 @@ pub fn line_at(text: &[u8], k: usize) -> &[u8]
     ensures { result.now ≡ line_of k text.now }
 {
     let mut s: usize = 0;
-    let mut left = k;
-    while 0 < left {
+    for _passed in 0..k {
         let e = line_end(text, s);
         if e == text.len() {
-            return &text[..0];
+            return &[];
         }
         s = e + 1;
-        left -= 1;
     }
     let e = line_end(text, s);
     &text[s..e]

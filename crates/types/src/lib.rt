@@ -6,19 +6,19 @@ ghost use Rattle.types.specs.Shards.{left_of, right_of, parent_of, byzantine_thr
 ghost use Rattle.types.specs.Places.{is_pooled, is_seated_on, is_observing, observes, is_ready, is_overdue, pooled, short, drawn_to, set_to_watch, moved_to, kept_on, seated_from_watch, made_ready};
 ghost use Rattle.types.specs.Answers.{number_of};
 
-#[derive(Clone, Copy)]
+#[derive(Clone, Copy, PartialEq, Eq, PartialOrd, Ord)]
 pub struct ShardId(pub u64);
 
-#[derive(Clone, Copy)]
+#[derive(Clone, Copy, PartialEq, Eq, PartialOrd, Ord)]
 pub struct ValidatorId(pub u64);
 
-#[derive(Clone, Copy)]
+#[derive(Clone, Copy, PartialEq, Eq, PartialOrd, Ord)]
 pub struct Epoch(pub u64);
 
-#[derive(Clone, Copy)]
+#[derive(Clone, Copy, PartialEq, Eq, PartialOrd, Ord)]
 pub struct BlockHeight(pub u64);
 
-#[derive(Clone, Copy)]
+#[derive(Clone, Copy, PartialEq, Eq)]
 pub enum Place {
     Pooled,
     Seated {
@@ -34,32 +34,32 @@ pub enum Place {
     Other(u64),
 }
 
-#[derive(Clone, Copy)]
+#[derive(Clone, Copy, PartialEq, Eq)]
 pub struct Machine {
     pub id: ValidatorId,
     pub place: Place,
 }
 
-#[derive(Clone, Copy)]
+#[derive(Clone, Copy, PartialEq, Eq)]
 pub enum Answer {
-    Done,
-    NotWellFormed,
-    LastEpoch,
-    OutOfRange,
-    NoRecord,
-    NoBoundary,
-    NotThere,
-    FamilyTaken,
-    VictimUnfit,
-    DrawMissing,
-    DrawTooLarge,
-    NoRoom,
-    PoolTooSmall,
-    NotASnapshot,
+    Done = 0,
+    NotWellFormed = 1,
+    LastEpoch = 2,
+    OutOfRange = 3,
+    NoRecord = 4,
+    NoBoundary = 5,
+    NotThere = 6,
+    FamilyTaken = 7,
+    VictimUnfit = 8,
+    DrawMissing = 9,
+    DrawTooLarge = 10,
+    NoRoom = 11,
+    PoolTooSmall = 12,
+    NotASnapshot = 13,
 }
 
 // The answer stands between the counts: side by side they would be copied as one, which waits for both to be stored.
-#[derive(Clone, Copy)]
+#[derive(Clone, Copy, PartialEq, Eq)]
 pub struct Outcome {
     pub handled: u64,
     pub answer: Answer,
@@ -108,61 +108,31 @@ impl Place {
     pub fn is_pooled(self) -> bool
         ensures { result ≡ is_pooled self }
     {
-        match self {
-            Place::Pooled => true,
-            Place::Seated { .. } => false,
-            Place::Observing { .. } => false,
-            Place::Short => false,
-            Place::Other(_) => false,
-        }
+        matches!(self, Place::Pooled)
     }
 
     pub fn is_seated_on(self, on: ShardId) -> bool
         ensures { result ≡ is_seated_on on.0 self }
     {
-        match self {
-            Place::Pooled => false,
-            Place::Seated { shard, .. } => shard.0 == on.0,
-            Place::Observing { .. } => false,
-            Place::Short => false,
-            Place::Other(_) => false,
-        }
+        matches!(self, Place::Seated { shard, .. } if shard == on)
     }
 
     pub fn is_observing(self) -> bool
         ensures { result ≡ is_observing self }
     {
-        match self {
-            Place::Pooled => false,
-            Place::Seated { .. } => false,
-            Place::Observing { .. } => true,
-            Place::Short => false,
-            Place::Other(_) => false,
-        }
+        matches!(self, Place::Observing { .. })
     }
 
     pub fn observes_shard(self, on: ShardId) -> bool
         ensures { result ≡ observes on.0 self }
     {
-        match self {
-            Place::Pooled => false,
-            Place::Seated { .. } => false,
-            Place::Observing { shard, .. } => shard.0 == on.0,
-            Place::Short => false,
-            Place::Other(_) => false,
-        }
+        matches!(self, Place::Observing { shard, .. } if shard == on)
     }
 
     pub fn is_ready(self) -> bool
         ensures { result ≡ is_ready self }
     {
-        match self {
-            Place::Pooled => false,
-            Place::Seated { ready, .. } => ready,
-            Place::Observing { .. } => false,
-            Place::Short => false,
-            Place::Other(_) => false,
-        }
+        matches!(self, Place::Seated { ready: true, .. })
     }
 
     // Seated, waiting, and at or past its deadline; no sum here can pass 64 bits.
@@ -170,25 +140,12 @@ impl Place {
         ensures { result ≡ is_overdue epoch.0 wait self }
     {
         match self {
-            Place::Pooled => false,
             Place::Seated {
-                ready,
+                ready: false,
                 placed_at_epoch,
                 ..
-            } => {
-                let from = placed_at_epoch.0;
-                let by = epoch.0;
-                if ready {
-                    return false;
-                }
-                if by < from {
-                    return false;
-                }
-                wait <= by - from
-            }
-            Place::Observing { .. } => false,
-            Place::Short => false,
-            Place::Other(_) => false,
+            } => placed_at_epoch <= epoch && wait <= epoch.0 - placed_at_epoch.0,
+            _ => false,
         }
     }
 
@@ -238,15 +195,12 @@ impl Place {
         ensures { result ≡ moved_to to.0 self }
     {
         match self {
-            Place::Pooled => self,
             Place::Seated {
                 ready,
                 placed_at_epoch,
                 ..
             } => Place::seated(to, ready, placed_at_epoch),
-            Place::Observing { .. } => self,
-            Place::Short => self,
-            Place::Other(_) => self,
+            _ => self,
         }
     }
 
@@ -255,15 +209,11 @@ impl Place {
         ensures { result ≡ kept_on to.0 marked self }
     {
         match self {
-            Place::Pooled => self,
             Place::Seated {
-                shard: _,
-                ready: _,
                 placed_at_epoch,
+                ..
             } => Place::seated(to, marked, placed_at_epoch),
-            Place::Observing { .. } => self,
-            Place::Short => self,
-            Place::Other(_) => self,
+            _ => self,
         }
     }
 
@@ -272,11 +222,8 @@ impl Place {
         ensures { result ≡ seated_from_watch to.0 marked epoch.0 self }
     {
         match self {
-            Place::Pooled => self,
-            Place::Seated { .. } => self,
             Place::Observing { .. } => Place::seated(to, marked, epoch),
-            Place::Short => self,
-            Place::Other(_) => self,
+            _ => self,
         }
     }
 
@@ -285,16 +232,21 @@ impl Place {
         ensures { result ≡ made_ready self }
     {
         match self {
-            Place::Pooled => self,
             Place::Seated {
                 shard,
                 placed_at_epoch,
                 ..
             } => Place::seated(shard, true, placed_at_epoch),
-            Place::Observing { .. } => self,
-            Place::Short => self,
-            Place::Other(_) => self,
+            _ => self,
         }
+    }
+}
+
+impl From<Answer> for u64 {
+    ghost from_gives = { λ answer number. number ≡ number_of answer };
+
+    fn from(answer: Answer) -> u64 {
+        answer as u64
     }
 }
 
@@ -302,21 +254,6 @@ impl Answer {
     pub fn number(self) -> u64
         ensures { result ≡ number_of self }
     {
-        match self {
-            Answer::Done => 0,
-            Answer::NotWellFormed => 1,
-            Answer::LastEpoch => 2,
-            Answer::OutOfRange => 3,
-            Answer::NoRecord => 4,
-            Answer::NoBoundary => 5,
-            Answer::NotThere => 6,
-            Answer::FamilyTaken => 7,
-            Answer::VictimUnfit => 8,
-            Answer::DrawMissing => 9,
-            Answer::DrawTooLarge => 10,
-            Answer::NoRoom => 11,
-            Answer::PoolTooSmall => 12,
-            Answer::NotASnapshot => 13,
-        }
+        self as u64
     }
 }

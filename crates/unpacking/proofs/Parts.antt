@@ -5,6 +5,8 @@ use mathlib.Core.List.{List, [], ◌∷◌, ◌++◌, append_assoc, append-nil}
 use native.Mathlib.Omega.{arith}
 use native.Mathlib.Nat.{mul-le-mul_right}
 use borrow.Rule.Slice.PartMut.{put_mid}
+use Rattle.std.specs.Prelude.{Option, None, Some, IfSome}
+use Rattle.std.proofs.lemmas.Option.{none-some, same_Some, IfSome_then}
 use lib.ListN.{length, get_or, take, drop, replicate, length-append, length-drop, take-append-drop, drop_of_length-le, get_or-append}
 use lib.Seq.{take_at, drop_at, drop-drop, get_or-drop, get_or-take, length-take-le}
 use Rattle.rules.specs.Snapshot.{read_words, rows_words, section}
@@ -35,22 +37,23 @@ first at ws x y e h =
 -- ---- words
 
 module _ {bs ws : List ℕ} (h : AsWords bs ws) (at n : ℕ) (t : List ℕ) where
-  pub words_read : at + n ≤ length bs / 8 → t ≡ read_words n (drop (8 * at) bs) → PartRead plain (Wide n) ws t at (at + n)
+  pub words_read : at + n ≤ length bs / 8 → t ≡ read_words n (drop (8 * at) bs) → PartRead plain (Wide n) ws t at (Some (at + n))
   words_read r e =
       let f : t ≡ take n (drop at ws) = e ∙ words_are h at n (omega (arith, total h)) in
       record {
-        read = λ _. (omega arith, sym (take-append-drop n (drop at ws)) ∙ ap (λ (l : List ℕ). l ++ drop n (drop at ws)) (sym f) ∙ ap (λ (l : List ℕ). t ++ l) (drop-drop n at ws));
-        whole = λ v rest g p. (f ∙ ap (take n) p ∙ take_at v rest n g.1, omega (arith, g.1));
+        read = (
+          omega arith,
+          omega (arith, total h),
+          sym (take-append-drop n (drop at ws)) ∙ ap (λ (l : List ℕ). l ++ drop n (drop at ws)) (sym f) ∙ ap (λ (l : List ℕ). t ++ l) (drop-drop n at ws),
+        );
+        whole = λ v rest g p. (f ∙ ap (take n) p ∙ take_at v rest n g.1, ap Some (ap (λ (m : ℕ). at + m) (sym g.1)));
       }
 
-  pub words_none : (r : ℕ) → length bs / 8 < at + n → r ≡ length bs / 8 + 1 → PartRead plain (Wide n) ws t at r
-  words_none r o e = record {
-    read = λ i. absurd (omega (arith, total h));
-    whole = λ v rest g p. absurd (omega (arith, total h, ends at ws v rest p (omega (arith, g.0, g.1)), g.1));
-  }
+  pub words_none : length bs / 8 < at + n → PartRead plain (Wide n) ws t at None
+  words_none o = record { read = tt; whole = λ v rest g p. absurd (omega (arith, total h, ends at ws v rest p (omega (arith, g.0, g.1)), g.1)) }
 
 -- where n words of a room are lent, n words are read
-pub lent_words : {ws t : List ℕ} {at r : ℕ} (n : ℕ) (lent : List ℕ) → n ≤ length lent → PartRead plain (Wide (length (take n lent))) ws t at r → PartRead plain (Wide n) ws t at r
+pub lent_words : {ws t : List ℕ} {at : ℕ} {r : Option ℕ} (n : ℕ) (lent : List ℕ) → n ≤ length lent → PartRead plain (Wide (length (take n lent))) ws t at r → PartRead plain (Wide n) ws t at r
 lent_words {ws} {t} {at} {r} n lent h q = subst (λ (m : ℕ). PartRead plain (Wide m) ws t at r) (length-take-le n lent h) q
 
 -- ---- a list
@@ -81,7 +84,7 @@ flat_back w cap n t z f h l =
     g = get_or-append t z 0 0 (omega arith)
 
 -- lent: the room of which the list's words are lent
-module _ (w cap n at r : ℕ) (ws lent t o : List ℕ) where
+module _ (w cap n at : ℕ) (r : Option ℕ) (ws lent t o : List ℕ) where
   pub list_read : n ≡ get_or ws at 0 → n ≤ cap → 1 + n * w ≤ length lent → o ≡ t ++ replicate (1 + cap * w - (1 + n * w)) 0 → length t ≡ length (take (1 + n * w) lent)
       → PartRead plain (Wide (length (take (1 + n * w) lent))) ws t at r → PartRead (flat w cap) (Listed w cap) ws o at r
   list_read count few room e long lentRead = record { read = reads; whole = wholes }
@@ -98,13 +101,12 @@ module _ (w cap n at r : ℕ) (ws lent t o : List ℕ) where
       fits : 1 + n * w ≤ 1 + cap * w
       fits = omega (arith, mul-le-mul_right w few)
 
-      reads : r ≤ length ws → (at ≤ r) × (drop at ws ≡ flat w cap o ++ drop r ws)
-      reads i =
-          let x = q.read i in
-          let f : get_or t 0 0 ≡ n = sym (first at ws t (drop r ws) x.1 (omega (arith, l))) ∙ sym count in
-          (x.0, x.1 ∙ ap (λ (u : List ℕ). u ++ drop r ws) (sym (ap (flat w cap) e ∙ flat_back w cap n t _ f few l)))
+      reads : IfSome r (λ next. (at ≤ next) × (next ≤ length ws) × (drop at ws ≡ flat w cap o ++ drop next ws))
+      reads = IfSome_then r q.read (λ next x.
+          let f : get_or t 0 0 ≡ n = sym (first at ws t (drop next ws) x.2 (omega (arith, l))) ∙ sym count in
+          (x.0, x.1, x.2 ∙ ap (λ (u : List ℕ). u ++ drop next ws) (sym (ap (flat w cap) e ∙ flat_back w cap n t _ f few l))))
 
-      wholes : (v rest : List ℕ) → Listed w cap v → drop at ws ≡ flat w cap v ++ rest → (o ≡ v) × (r ≡ at + length (flat w cap v))
+      wholes : (v rest : List ℕ) → Listed w cap v → drop at ws ≡ flat w cap v ++ rest → (o ≡ v) × (r ≡ Some (at + length (flat w cap v)))
       wholes v rest g p =
           let c : n ≡ get_or v 0 0 = count ∙ listed_first w cap v g at ws rest p in
           let m : length (flat w cap v) ≡ 1 + n * w = listed_count w cap v g ∙ ap (λ (k : ℕ). 1 + k * w) (sym c) in
@@ -113,11 +115,8 @@ module _ (w cap n at r : ℕ) (ws lent t o : List ℕ) where
           ap (λ (k : ℕ). flat w cap v ++ replicate (1 + cap * w - k) 0) (sym m) ∙ sym (pad_is (1 + cap * w) (flat w cap v) (omega (arith, fits))) in
           (e ∙ ap (λ (u : List ℕ). u ++ replicate (1 + cap * w - (1 + n * w)) 0) y.0 ∙ s ∙ sym g.words, y.1)
 
-pub list_none : (w cap n at r : ℕ) (ws o : List ℕ) → n ≡ get_or ws at 0 → cap < n → length ws < r → PartRead (flat w cap) (Listed w cap) ws o at r
-list_none w cap n at r ws o count many past = record {
-  read = λ i. absurd (omega arith);
-  whole = λ v rest g p. absurd (omega (arith, listed_first w cap v g at ws rest p, g.few));
-}
+pub list_none : (w cap n at : ℕ) (ws o : List ℕ) → n ≡ get_or ws at 0 → cap < n → PartRead (flat w cap) (Listed w cap) ws o at None
+list_none w cap n at ws o count many = record { read = tt; whole = λ v rest g p. absurd (omega (arith, listed_first w cap v g at ws rest p, g.few)) }
 
 -- what is cleared from e on
 pub room_cleared : (e : ℕ) (out z : List ℕ) → e ≤ length out → z ≡ replicate (length (take (length out - e) (drop e out))) 0
@@ -144,34 +143,53 @@ table_listed f w fw cap xs h = record { few = h; words = words }
 
 -- ---- one part after another
 
-module _ {p q : List ℕ → List ℕ} {g h : List ℕ → Type 0} {ws t u : List ℕ} {at m r : ℕ} (a : ℕ) (l : length t ≡ a) where
-  pub both : PartRead p g ws t at m → PartRead q h ws u m r
+-- where no part stands the words are any
+pub any_words : {p : List ℕ → List ℕ} {g : List ℕ → Type 0} {ws t : List ℕ} {at : ℕ} (u : List ℕ) → PartRead p g ws t at None → PartRead p g ws u at None
+any_words u x = record { read = tt; whole = λ v rest c e. absurd (none-some _ (x.whole v rest c e).1) }
+
+-- the first of two parts is not there
+pub both_none : {p : List ℕ → List ℕ} {g : List ℕ → Type 0} (q : List ℕ → List ℕ) (h : List ℕ → Type 0) {ws t u : List ℕ} {at : ℕ} (a : ℕ) → PartRead p g ws t at None
+    → PartRead (λ v. p (take a v) ++ q (drop a v)) (λ v. g (take a v) × h (drop a v)) ws u at None
+both_none {p} q h a x = record {
+  read = tt;
+  whole = λ v rest c e. absurd (none-some _ (x.whole (take a v) (q (drop a v) ++ rest) c.0 (e ∙ append_assoc (p (take a v)) (q (drop a v)) rest)).1);
+}
+
+module _ {p q : List ℕ → List ℕ} {g h : List ℕ → Type 0} {ws t u : List ℕ} {at : ℕ} (a : ℕ) where
+  pub both : {m : ℕ} {r : Option ℕ} → length t ≡ a → PartRead p g ws t at (Some m) → PartRead q h ws u m r
       → PartRead (λ v. p (take a v) ++ q (drop a v)) (λ v. g (take a v) × h (drop a v)) ws (t ++ u) at r
-  both x y = record { read = reads; whole = wholes }
+  both {m} {r} l x y = record { read = reads; whole = wholes }
     where
-      reads : r ≤ length ws → (at ≤ r) × (drop at ws ≡ (p (take a (t ++ u)) ++ q (drop a (t ++ u))) ++ drop r ws)
-      reads i =
-          let z = y.read i in
-          let w = x.read (omega (arith, z.0)) in
-          (omega (arith, z.0, w.0), rw (take_at t u a l, drop_at t u a l, append_assoc (p t) (q u) (drop r ws)) (w.1 ∙ ap (λ (k : List ℕ). p t ++ k) z.1))
+      reads : IfSome r (λ e. (at ≤ e) × (e ≤ length ws) × (drop at ws ≡ (p (take a (t ++ u)) ++ q (drop a (t ++ u))) ++ drop e ws))
+      reads = IfSome_then r y.read (λ e z.
+          let w = x.read in
+          (omega (arith, z.0, w.0), z.1, rw (take_at t u a l, drop_at t u a l, append_assoc (p t) (q u) (drop e ws)) (w.2 ∙ ap (λ (k : List ℕ). p t ++ k) z.2)))
 
       wholes : (v rest : List ℕ) → g (take a v) × h (drop a v) → drop at ws ≡ (p (take a v) ++ q (drop a v)) ++ rest
-          → (t ++ u ≡ v) × (r ≡ at + length (p (take a v) ++ q (drop a v)))
+          → (t ++ u ≡ v) × (r ≡ Some (at + length (p (take a v) ++ q (drop a v))))
       wholes v rest c e =
           let d : drop at ws ≡ p (take a v) ++ (q (drop a v) ++ rest) = e ∙ append_assoc (p (take a v)) (q (drop a v)) rest in
           let w = x.whole (take a v) (q (drop a v) ++ rest) c.0 d in
-          let z = y.whole (drop a v) rest c.1 (follows at m ws (p (take a v)) (q (drop a v) ++ rest) d w.1) in
-          (rw (w.0, z.0) (take-append-drop a v), omega (arith, w.1, z.1, length-append (p (take a v)) (q (drop a v))))
+          let n : m ≡ at + length (p (take a v)) = same_Some _ _ w.1 in
+          let z = y.whole (drop a v) rest c.1 (follows at m ws (p (take a v)) (q (drop a v) ++ rest) d n) in
+          let s : m + length (q (drop a v)) ≡ at + length (p (take a v) ++ q (drop a v)) = omega (arith, n, length-append (p (take a v)) (q (drop a v))) in
+          (rw (w.0, z.0) (take-append-drop a v), z.1 ∙ ap Some s)
 
 -- the same part by other names
-pub renamed : {p q : List ℕ → List ℕ} {g h : List ℕ → Type 0} {ws t : List ℕ} {at r : ℕ} → PartRead p g ws t at r → q t ≡ p t → ((v : List ℕ) → h v → (q v ≡ p v) × g v)
+pub renamed : {p q : List ℕ → List ℕ} {g h : List ℕ → Type 0} {ws t : List ℕ} {at : ℕ} {r : Option ℕ} → PartRead p g ws t at r → q t ≡ p t → ((v : List ℕ) → h v → (q v ≡ p v) × g v)
     → PartRead q h ws t at r
-renamed {p} {q} {ws} {at} {r} x e f = record {
-  read = λ i. ((x.read i).0, (x.read i).1 ∙ ap (λ (k : List ℕ). k ++ drop r ws) (sym e));
+renamed {p} {q} {g} {h} {ws} {t} {at} {r} x e f = record {
+  read = IfSome_then r x.read (λ next y. (y.0, y.1, y.2 ∙ ap (λ (k : List ℕ). k ++ drop next ws) (sym e)));
   whole = λ v rest c d.
       let n = f v c in
       let w = x.whole v rest n.1 (d ∙ ap (λ (k : List ℕ). k ++ rest) n.0) in
-      (w.0, w.1 ∙ ap (λ (k : List ℕ). at + length k) (sym n.0));
+      (w.0, w.1 ∙ ap (λ (k : List ℕ). Some (at + length k)) (sym n.0));
+}
+
+pub renamed_none : {p q : List ℕ → List ℕ} {g h : List ℕ → Type 0} {ws t : List ℕ} {at : ℕ} → PartRead p g ws t at None → ((v : List ℕ) → h v → (q v ≡ p v) × g v) → PartRead q h ws t at None
+renamed_none x f = record {
+  read = tt;
+  whole = λ v rest c d. let n = f v c in absurd (none-some _ (x.whole v rest n.1 (d ∙ ap (λ (k : List ℕ). k ++ rest) n.0)).1);
 }
 
 -- ---- parts written one after another: a words are, and those past them as before

@@ -6,6 +6,8 @@ use mathlib.Core.Bool.{true, false≢true}
 use native.Mathlib.Omega.{arith}
 use native.Mathlib.Nat.{mul-le-mul_right}
 use borrow.Rule.Slice.PartMut.{put_mid}
+use Rattle.std.specs.Prelude.{Option, None, Some}
+use Rattle.std.proofs.lemmas.Option.{none-some, same_Some}
 use lib.ListN.{length, get_or, take, drop, replicate, length-append, length-drop, length-replicate}
 use lib.Seq.{take_at, take_all, length-take-le}
 use Rattle.rules.specs.Lists.{every}
@@ -53,13 +55,17 @@ module _ (a w : ℕ) (out t : List ℕ) (h : a + w ≤ length out) (l : length t
   put_long : length t ≡ w
   put_long = l ∙ length-take-le (a + w - a) (drop a out) (omega (arith, length-drop a out)) ∙ omega arith
 
+  pub put_same : length (put_mid a (a + w - a) out t) ≡ length out
+  put_same =
+      omega (arith, length-append (take a out) (t ++ drop (a + w - a) (drop a out)), length-append t (drop (a + w - a) (drop a out)), length-take-le a out (omega arith), put_long, length-drop (a + w - a) (drop a out), length-drop a out)
+
   put_more : take (a + w) (put_mid a (a + w - a) out t) ≡ take a out ++ t
   put_more =
       let n : length (take a out ++ t) ≡ a + w = omega (arith, length-append (take a out) t, length-take-le a out (omega arith), put_long) in
       ap (take (a + w)) (sym (append_assoc (take a out) t (drop (a + w - a) (drop a out)))) ∙ take_at (take a out ++ t) (drop (a + w - a) (drop a out)) (a + w) n
 
 begun_turn : {k : RowKind} {ws : List ℕ} {xs : List (RowOf k)} {rest : List ℕ} {at : ℕ} {out : List ℕ} {left a next : ℕ} (w r : ℕ) (t : List ℕ)
-    → Begun k ws xs rest at out left a next → 0 < left → a + w ≤ length out → length t ≡ length (take (a + w - a) (drop a out)) → RowRead k ws t next r
+    → Begun k ws xs rest at out left a next → 0 < left → a + w ≤ length out → length t ≡ length (take (a + w - a) (drop a out)) → RowRead k ws t next (Some r)
     → Begun k ws xs rest at (put_mid a (a + w - a) out t) (left - 1) (a + w) r
 unfolding rows_words
 begun_turn {k} {ws} {xs} {rest} {at} {out} {left} {a} {next} w r t b more h l q = turn b.rows b.count b.roomy b.source b.ends b.words
@@ -77,8 +83,8 @@ begun_turn {k} {ws} {xs} {rest} {at} {out} {left} {a} {next} w r t b more h l q 
           rows = rows;
           count = omega arith;
           roomy = p.1;
-          source = follows next r ws (snap_row k x) (S ++ rest) d v.1;
-          ends = omega (arith, v.1, length-append (snap_row k x) S);
+          source = follows next r ws (snap_row k x) (S ++ rest) d (same_Some _ _ v.1);
+          ends = omega (arith, same_Some _ _ v.1, length-append (snap_row k x) S);
           words = ap (λ (u : List ℕ). u ++ rows_words (full_row k) rows) (put_more a w out t h l ∙ ap (λ (u : List ℕ). take a out ++ u) v.0)
               ∙ append_assoc (take a out) (full_row k x) (rows_words (full_row k) rows)
               ∙ f;
@@ -93,25 +99,43 @@ module _ {k : RowKind} {w n : ℕ} {bytes : List ℕ} {at : ℕ} {before out : L
   pub unroll_lent : 0 < left → length (take (a + w - a) (drop a out)) ≡ width_of k
   unroll_lent more = length-take-le (a + w - a) (drop a out) (omega (arith, length-drop a out, unroll_room more)) ∙ omega (arith, u.width)
 
-  pub unroll_turn : (t : List ℕ) (r : ℕ) → 0 < left → length t ≡ length (take (a + w - a) (drop a out)) → length (put_mid a (a + w - a) out t) ≡ length out
-      → ((ws : List ℕ) → AsWords bytes ws → RowRead k ws t next r) → Unrolled k w n bytes at before (put_mid a (a + w - a) out t) (left - 1) (a + w) r
-  unroll_turn t r more l same q =
+  pub unroll_turn : (t : List ℕ) (r : ℕ) → 0 < left → length t ≡ length (take (a + w - a) (drop a out))
+      → ((ws : List ℕ) → AsWords bytes ws → RowRead k ws t next (Some r)) → Unrolled k w n bytes at before (put_mid a (a + w - a) out t) (left - 1) (a + w) r
+  unroll_turn t r more l q =
       let e : left ≡ suc (left - 1) = omega arith in
       record {
         width = u.width;
-        long = same ∙ u.long;
+        long = put_same a w out t (unroll_room more) l ∙ u.long;
         room = omega (arith, ap (λ (m : ℕ). m * w) e, u.room);
         begun = λ ws h xs rest c g s. begun_turn w r t (u.begun ws h xs rest c g s) more (unroll_room more) l (q ws h);
       }
 
-  pub unroll_end : left ≤ 0 → (ws : List ℕ) → AsWords bytes ws → RowsRead k n ws out at next
+  -- the next row is not there, so the rows are not
+  pub unroll_none : 0 < left → (t o ws : List ℕ) → AsWords bytes ws → RowRead k ws t next None → RowsRead k n ws o at None
+  unfolding rows_words
+  unroll_none more t o ws h q = record { whole = λ xs rest c g s. let b = u.begun ws h xs rest c g s in absurd (go rest b.rows b.count b.roomy b.source) }
+    where
+      go : (rest : List ℕ) (rows : List (RowOf k)) → length rows ≡ left → every (roomy_row k) rows ≡ true → drop next ws ≡ rows_words (snap_row k) rows ++ rest → ⊥
+      go rest [] c g s = omega arith
+      go rest (x ∷ rows) c g s =
+          none-some _ (q.whole x (rows_words (snap_row k) rows ++ rest) (every_parts (roomy_row k) x rows g).0 (s ∙ append_assoc (snap_row k x) (rows_words (snap_row k) rows) rest)).1
+
+  pub unroll_end : left ≤ 0 → (ws : List ℕ) → AsWords bytes ws → RowsRead k n ws out at (Some next)
   unfolding rows_words
   unroll_end z ws h = record { whole = λ xs rest c g s. let b = u.begun ws h xs rest c g s in ends xs b.rows b.count b.ends b.words }
     where
       ends : (xs rows : List (RowOf k)) → length rows ≡ left → next + length (rows_words (snap_row k) rows) ≡ at + length (rows_words (snap_row k) xs)
-          → take a out ++ rows_words (full_row k) rows ≡ rows_words (full_row k) xs → (out ≡ rows_words (full_row k) xs) × (next ≡ at + length (rows_words (snap_row k) xs))
-      ends xs [] c e f = (sym (take_all a out (omega (arith, u.room, u.long, ap (λ (m : ℕ). m * w) c))) ∙ sym (append-nil (take a out)) ∙ f, omega arith)
+          → take a out ++ rows_words (full_row k) rows ≡ rows_words (full_row k) xs → (out ≡ rows_words (full_row k) xs) × (Some next ≡ Some (at + length (rows_words (snap_row k) xs)))
+      ends xs [] c e f =
+          let z : next ≡ at + length (rows_words (snap_row k) xs) = omega arith in
+          (sym (take_all a out (omega (arith, u.room, u.long, ap (λ (m : ℕ). m * w) c))) ∙ sym (append-nil (take a out)) ∙ f, ap Some z)
       ends xs (x ∷ rows) c e f = absurd (omega arith)
+
+-- the same, counted from the first row on
+pub unrolled_at : {k : RowKind} {w n : ℕ} {bytes : List ℕ} {at : ℕ} {before out : List ℕ} {left a next m b : ℕ} → left ≡ m → a ≡ b → Unrolled k w n bytes at before out left a next
+    → Unrolled k w n bytes at before out m b next
+unrolled_at {k} {w} {n} {bytes} {at} {before} {out} {left} {a} {next} {m} {b} p q u =
+    subst (λ (i : ℕ). Unrolled k w n bytes at before out i b next) p (subst (λ (i : ℕ). Unrolled k w n bytes at before out left i next) q u)
 
 -- rows without lists, read at once
 
@@ -129,7 +153,7 @@ width_some Boundaries = omega arith
 width_some Rotations = omega arith
 width_some Reshapes = omega arith
 
-pub plain_read : (k : RowKind) (w n at r : ℕ) (ws out t : List ℕ) → is_plain k ≡ true → 0 < n → w ≡ width_of k → length out ≡ n * w → PartRead plain (Wide (length out)) ws t at r
+pub plain_read : (k : RowKind) (w n at : ℕ) (r : Option ℕ) (ws out t : List ℕ) → is_plain k ≡ true → 0 < n → w ≡ width_of k → length out ≡ n * w → PartRead plain (Wide (length out)) ws t at r
     → RowsRead k n ws t at r
 plain_read k w n at r ws out t h more width long q = record {
   whole = λ xs rest c g p.
@@ -139,21 +163,30 @@ plain_read k w n at r ws out t h more width long q = record {
       let s : n ≡ suc (n - 1) = omega arith in
       let some : 0 < length out = omega (arith, ap (λ (m : ℕ). m * w) s, width_some k) in
       let v = q.whole (rows_words (full_row k) xs) rest (some, l) (p ∙ ap (λ (u : List ℕ). u ++ rest) e) in
-      (v.0, v.1 ∙ ap (λ (u : List ℕ). at + length u) (sym e));
+      (v.0, v.1 ∙ ap (λ (u : List ℕ). Some (at + length u)) (sym e));
 }
 
 -- ---- a table
 
 module _ (k : RowKind) (w cap n at m : ℕ) (ws out y : List ℕ) (width : w ≡ width_of k) (long : length out ≡ 1 + cap * w) (ly : length y ≡ length (take 1 out))
-    (count : n ≡ get_or (put_mid 0 1 out y) 0 0) (first : PartRead plain (Wide (length (take 1 out))) ws y at m) where
+    (count : n ≡ get_or (put_mid 0 1 out y) 0 0) (first : PartRead plain (Wide (length (take 1 out))) ws y at (Some m)) where
   counted : (xs : List (RowOf k)) (rest : List ℕ) → drop at ws ≡ section (snap_row k) xs ++ rest → (y ≡ length xs ∷ []) × (m ≡ at + 1) × (n ≡ length xs)
   unfolding section
   counted xs rest p =
       let q = (lent_words 1 out (omega arith) first).whole (length xs ∷ []) (rows_words (snap_row k) xs ++ rest) (omega arith, refl) p in
-      (q.0, q.1, count ∙ ap (λ (l : List ℕ). get_or (l ++ drop 1 out) 0 0) q.0)
+      (q.0, same_Some _ _ q.1, count ∙ ap (λ (l : List ℕ). get_or (l ++ drop 1 out) 0 0) q.0)
 
-  pub table_many : (t : List ℕ) (s : ℕ) → cap < n → TableRead k cap ws t at s
-  table_many t s many = record { whole = λ xs rest few g p. absurd (omega (arith, (counted xs rest p).2)) }
+  pub table_many : (t : List ℕ) → cap < n → TableRead k cap ws t at None
+  table_many t many = record { whole = λ xs rest few g p. absurd (omega (arith, (counted xs rest p).2)) }
+
+  -- the rows are not there
+  pub table_none : (u t : List ℕ) → RowsRead k n ws u m None → TableRead k cap ws t at None
+  unfolding section
+  table_none u t q = record {
+    whole = λ xs rest few g p.
+        let c = counted xs rest p in
+        absurd (none-some _ (q.whole xs rest (sym c.2) g (follows at m ws (length xs ∷ []) (rows_words (snap_row k) xs ++ rest) p c.1)).1);
+  }
 
   -- the table when the count and the rows are written
   abbrev table1 : List ℕ
@@ -163,7 +196,7 @@ module _ (k : RowKind) (w cap n at m : ℕ) (ws out y : List ℕ) (width : w ≡
   table2 u = put_mid 1 (1 + n * w - 1) table1 u
 
   pub table_read : (r : ℕ) (u z : List ℕ) → n ≤ cap → length u ≡ length (take (1 + n * w - 1) (drop 1 table1)) → z ≡ replicate (length (take (length (table2 u) - (1 + n * w)) (drop (1 + n * w) (table2 u)))) 0
-      → RowsRead k n ws u m r → TableRead k cap ws (put_mid (1 + n * w) (length (table2 u) - (1 + n * w)) (table2 u) z) at r
+      → RowsRead k n ws u m (Some r) → TableRead k cap ws (put_mid (1 + n * w) (length (table2 u) - (1 + n * w)) (table2 u) z) at (Some r)
   unfolding section
   table_read r u z some lu ez q = record { whole = wholes }
     where
@@ -189,7 +222,7 @@ module _ (k : RowKind) (w cap n at m : ℕ) (ws out y : List ℕ) (width : w ≡
       all = filled_all (filled_next (length (table2 u)) z g (omega (arith, size, fits)) (omega (arith, size)) (ap length ez ∙ length-replicate _ 0)) (sym size)
 
       wholes : (xs : List (RowOf k)) (rest : List ℕ) → length xs ≤ cap → every (roomy_row k) xs ≡ true → drop at ws ≡ section (snap_row k) xs ++ rest
-          → (put_mid (1 + n * w) (length (table2 u) - (1 + n * w)) (table2 u) z ≡ table (full_row k) (width_of k) cap xs) × (r ≡ at + length (section (snap_row k) xs))
+          → (put_mid (1 + n * w) (length (table2 u) - (1 + n * w)) (table2 u) z ≡ table (full_row k) (width_of k) cap xs) × (Some r ≡ Some (at + length (section (snap_row k) xs)))
       wholes xs rest few roomy p =
           let c = counted xs rest p in
           let v = q.whole xs rest (sym c.2) roomy (follows at m ws (length xs ∷ []) (rows_words (snap_row k) xs ++ rest) p c.1) in
@@ -199,8 +232,15 @@ module _ (k : RowKind) (w cap n at m : ℕ) (ws out y : List ℕ) (width : w ≡
           omega (arith, rl, ap (λ (j : ℕ). cap * j) width, ap (λ (j : ℕ). n * j) width, ap (λ (j : ℕ). j * width_of k) c.2) in (
             all
                 ∙ rw (c.0, v.0, cleared, i) (ap (λ (l : List ℕ). length xs ∷ l) (sym (pad_is (cap * width_of k) rows (omega (arith, rl, mul-le-mul_right (width_of k) few))))),
-            omega (arith, c.1, v.1),
+            (let e : r ≡ at + suc (length (rows_words (snap_row k) xs)) = omega (arith, c.1, same_Some _ _ v.1) in ap Some e),
           )
 
-pub roomed : {k : RowKind} {m n : ℕ} {ws t : List ℕ} {at r : ℕ} → m ≡ n → TableRead k m ws t at r → TableRead k n ws t at r
+-- no count is there
+pub count_none : (k : RowKind) (cap at : ℕ) (ws out y t : List ℕ) → 1 ≤ length out → PartRead plain (Wide (length (take 1 out))) ws y at None → TableRead k cap ws t at None
+unfolding section
+count_none k cap at ws out y t l q = record {
+  whole = λ xs rest few g p. absurd (none-some _ ((lent_words 1 out l q).whole (length xs ∷ []) (rows_words (snap_row k) xs ++ rest) (omega arith, refl) p).1);
+}
+
+pub roomed : {k : RowKind} {m n : ℕ} {ws t : List ℕ} {at : ℕ} {r : Option ℕ} → m ≡ n → TableRead k m ws t at r → TableRead k n ws t at r
 roomed {k} {ws} {t} {at} {r} e q = subst (λ (i : ℕ). TableRead k i ws t at r) e q

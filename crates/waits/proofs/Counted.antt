@@ -12,7 +12,7 @@ use Rattle.types.specs.Places.{is_seated_on, is_ready}
 use Rattle.types.specs.declared.Place.{Place}
 use Rattle.types.specs.declared.Place.TheVariants.{Short}
 use Rattle.rules.specs.Lists.{◌and◌, bit_of, count, keep, insert, sort}
-use Rattle.rules.specs.Table.{Entry, at, holds_at}
+use Rattle.rules.specs.Table.{Entry, at, holds_at, is_some}
 use Rattle.rules.specs.Board.{Reshape, Board}
 use Rattle.rules.specs.Moves.{says, members_of}
 use Rattle.rules.specs.Snapshot.{value_of, reshape_words}
@@ -94,3 +94,13 @@ none_mustered s b n = mustered s b [] (sym n) _ refl refl
 pub drain_is : (e : Entry Reshape) → get_or (reshape_row e) 4 0 ≡ value_of e.val.drain_by
 unfolding reshape_row reshape_head reshape_words
 drain_is e = refl
+
+pub some_is : (o : Option ℕ) (w : ℕ) → is_some o ≡ true → w ≡ value_of o → some w ≡ o
+unfolding value_of is_some
+some_is (some v) w h e = ap some e
+some_is none w h e = absurd (grind arith)
+
+pub none_is : (o : Option ℕ) → is_some o ≡ false → none ≡ o
+unfolding is_some
+none_is none h = refl
+none_is (some v) h = absurd (grind arith)

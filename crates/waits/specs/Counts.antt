@@ -1,7 +1,9 @@
 -- What a reshape waits for, counted.
-use Rattle.std.specs.Prelude.{◌≡◌, Bool, eqb, length}
+use Rattle.std.specs.Prelude.{ℕ, ◌≡◌, Bool, eqb, length, Option, Some, None}
+use Rattle.std.proofs.Math.Option as definitions
 use Rattle.types.specs.Numbers.{Shard}
 use Rattle.types.specs.Places.{is_seated_on, is_ready}
+use Rattle.types.specs.declared.Epoch.{Epoch}
 use Rattle.types.specs.declared.Place.{Place}
 use Rattle.rules.specs.Lists.{◌and◌, count}
 use Rattle.rules.specs.Board.{Seat, Board}
@@ -15,6 +17,11 @@ is_for c q = eqb q.child c
 -- seated there, and ready
 abbrev pub is_ready_on : Shard → Place → Bool
 is_ready_on s p = is_seated_on s p and is_ready p
+
+-- an epoch that may be missing, as the definitions have it
+abbrev pub epoch_of : Option Epoch → definitions.Option ℕ
+epoch_of (Some e) = definitions.some e.0
+epoch_of None = definitions.none
 
 -- the members seated on a shard, and those of them that are ready
 pub record Mustered (s : Shard) (b : Board) (r : Members) : Type 0 where

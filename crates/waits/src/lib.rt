@@ -9,16 +9,13 @@ ghost use Rattle.rules.specs.Table.{count_where};
 ghost use Rattle.rules.specs.Board.{Board, most_committees, most_members, most_reshapes, most_seats, size_of};
 ghost use Rattle.rules.specs.WellFormed.{well_formed};
 ghost use Rattle.rules.specs.Moves.{says};
-ghost use Rattle.rules.specs.Snapshot.{value_of};
 ghost use Rattle.board.specs.Layout.{board_size};
 ghost use Rattle.board.specs.Held.{Holds, no_committee, no_reshape};
-ghost use Rattle.waits.specs.Counts.{is_for, is_ready_on, Mustered};
+ghost use Rattle.waits.specs.Counts.{is_for, is_ready_on, epoch_of, Mustered};
 
-use board::layout::{
-    DRAIN_BY, MOST_COMMITTEES, MOST_MEMBERS, MOST_SEATS, RESHAPE_WIDTH, RESHAPES_AT,
-};
-use board::{committees, machines, settings};
-use reshapes::seats;
+use board::layout::{DRAIN_BY, MOST_MEMBERS, MOST_SEATS, RESHAPE_WIDTH, RESHAPES_AT};
+use board::{committees, settings};
+use reshapes::{fields, seats};
 use types::{Epoch, ShardId};
 
 // ---- the gate
@@ -42,13 +39,11 @@ pub fn seats_for(board: &[u64], i: usize, child: ShardId) -> usize
         result ≡ count_where (is_for child.0) (get_or b.reshapes i no_reshape).val.seats) }
 {
     let n = steps::rows_within(seats::count(board, i), MOST_SEATS);
-    let mut r: usize = 0;
-    let mut k: usize = 0;
-    while k < n {
+    // The seats stand as words of the board, so no iterator goes over them.
+    let mut r = 0;
+    for k in 0..n {
         let seat = seats::at(board, i, k);
-        let there = seat.child;
-        r += machines::bit(there.0 == child.0) as usize;
-        k += 1;
+        r += usize::from(seat.child == child);
     }
     r
 }
@@ -69,20 +64,16 @@ fn members_at(board: &[u64], j: usize, shard: ShardId) -> Members
         × (result.ready ≡ count (says (is_ready_on shard.0) b) (get_or b.committees j no_committee).val)) }
 {
     let n = steps::rows_within(committees::member_count(board, j), MOST_MEMBERS);
-    let mut seated: usize = 0;
-    let mut ready: usize = 0;
-    let mut k: usize = 0;
-    while k < n {
+    // Both counts in one walk, so no `filter` and `count`.
+    let mut seated = 0;
+    let mut ready = 0;
+    for k in 0..n {
         let p = rows::place_of(board, committees::member_at(board, j, k));
         let here = p.is_seated_on(shard);
-        seated += machines::bit(here) as usize;
-        ready += machines::bit(here & p.is_ready()) as usize;
-        k += 1;
+        seated += usize::from(here);
+        ready += usize::from(here & p.is_ready());
     }
-    Members {
-        seated: seated,
-        ready: ready,
-    }
+    Members { seated, ready }
 }
 
 // Of the shard's committee; none where it has no committee.
@@ -90,23 +81,25 @@ pub fn members_on(board: &[u64], shard: ShardId) -> Members
     requires { length board.now ≡ board_size }
     ensures { (result.seated ≤ most_members) × (result.ready ≤ most_members) × ((b : Board) → Holds board.now b → well_formed b ≡ true → Mustered shard.0 b result) }
 {
-    let j = rows::committee_row(board, shard);
-    if MOST_COMMITTEES <= j {
-        return Members {
+    match rows::find_committee(board, shard) {
+        Some(j) => members_at(board, j, shard),
+        None => Members {
             seated: 0,
             ready: 0,
-        };
+        },
     }
-    members_at(board, j, shard)
 }
 
 // ---- the drain
 
-// The epoch until which the reshape at i drains; 0 where its drain is not stamped.
-pub fn drain_by(board: &[u64], i: usize) -> Epoch
+// The epoch until which the reshape at i drains; none where its drain is not stamped.
+pub fn drain_by(board: &[u64], i: usize) -> Option<Epoch>
     requires { (length board.now ≡ board_size) × (i < most_reshapes) }
-    ensures { (b : Board) → Holds board.now b → i < length b.reshapes → result.0 ≡ value_of (get_or b.reshapes i no_reshape).val.drain_by }
+    ensures { (b : Board) → Holds board.now b → i < length b.reshapes → epoch_of result ≡ (get_or b.reshapes i no_reshape).val.drain_by }
 {
+    if !fields::is_draining(board, i) {
+        return None;
+    }
     let a = RESHAPES_AT + 1 + i * RESHAPE_WIDTH;
-    Epoch(board[a + DRAIN_BY])
+    Some(Epoch(board[a + DRAIN_BY]))
 }

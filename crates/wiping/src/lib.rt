@@ -18,7 +18,7 @@ fn wipe_piece(t: &mut [u64])
 }
 
 // Room past a count is cleared. Most of it is zeros already where a board was read before: these are read, which costs less than to
-// write them.
+// write them. A `while`: once `chunks_mut` has lent its pieces, a proof knows nothing of the words.
 pub fn wipe(t: &mut [u64])
     ensures { t.new ≡ replicate (length t.old) 0 }
 {

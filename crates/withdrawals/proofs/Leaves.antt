@@ -1,13 +1,17 @@
 -- Leave, as the code has it: each way out.
-use Prim.Native.Nat.{ℕ, ◌≤◌, ◌<◌}
+use Prim.Native.Nat.{ℕ, ◌<◌}
 use mathlib.Core.Path.{◌≡◌, ◌∙◌}
 use mathlib.Core.List.{List}
 use mathlib.Core.Bool.{true}
-use lib.ListN.{get_or}
+use mathlib.Core.Option.{none}
+use Rattle.std.specs.Prelude.{Result}
+use lib.ListN.{length, get_or}
 use Rattle.types.specs.Numbers.{Id}
 use Rattle.types.specs.declared.Answer.TheVariants.{NoRecord}
+use Rattle.types.specs.declared.Answer.{Answer}
+use Rattle.rules.specs.Table.{at}
 use Rattle.types.specs.declared.Outcome.{Outcome}
-use Rattle.rules.specs.Board.{Board, most_machines}
+use Rattle.rules.specs.Board.{Board}
 use Rattle.rules.specs.WellFormed.{well_formed}
 use Rattle.rules.specs.Turns.{checked, alone}
 use Rattle.rules.specs.Places.{leave_from, leave_turn, leave}
@@ -15,20 +19,19 @@ use Rattle.tables.proofs.Keys.{at_is}
 use Rattle.board.specs.Held.{Holds, no_machine}
 use Rattle.board.proofs.Keyed.{machines_rise}
 use Rattle.steps.specs.Inner.{outcome, Step}
-use Rattle.rows.specs.Found.{Found}
-use Rattle.pool.specs.declared.Turned.{Turned}
-use Rattle.pool.specs.Told.{TellsTurn, told_of}
-use Rattle.pool.proofs.Alone.{alone_told, alone_left}
+use Rattle.pool.specs.declared.Turn.{Turn}
+use Rattle.pool.specs.Told.{TurnTells, turn_told}
+use Rattle.pool.proofs.Alone.{turn_alone, turn_leaves}
 
-module _ (b : Board) (ok : well_formed b ≡ true) (draws after : List ℕ) (r : Outcome) (x : Id) (i : ℕ) (f : Found most_machines x no_machine b.machines i) where
-  pub no_record : most_machines ≤ i → Holds after b → r ≡ outcome NoRecord 0 0 → Step (leave x draws) b after r
+module _ (b : Board) (ok : well_formed b ≡ true) (draws after : List ℕ) (r : Outcome) (x : Id) where
+  pub no_record : at x b.machines ≡ none → Holds after b → r ≡ outcome NoRecord 0 0 → Step (leave x draws) b after r
   unfolding leave leave_turn alone checked
-  no_record l h e = record { told = rw (ok, leave_turn, f.missing l) e; left = rw (ok, leave_turn, f.missing l) h }
+  no_record n h e = record { told = rw (ok, leave_turn, n) e; left = rw (ok, leave_turn, n) h }
 
-  pub turned : i < most_machines → (t : Turned) → TellsTurn draws after b (leave_from (get_or b.machines i no_machine).val (get_or b.machines i no_machine).key draws b) t → r ≡ told_of t
+  pub turned : (i : ℕ) → i < length b.machines → (get_or b.machines i no_machine).key ≡ x → (t : Result Turn Answer) → TurnTells draws after b (leave_from (get_or b.machines i no_machine).val (get_or b.machines i no_machine).key draws b) t → r ≡ turn_told t
       → Step (leave x draws) b after r
   unfolding leave leave_turn checked
-  turned l t g e =
-      let there = at_is b.machines (machines_rise b ok) x i no_machine (f.inside l) (f.named l) in
-      let q = rw (f.named l) at g in
-      record { told = rw (ok, leave_turn, there) (e ∙ alone_told draws after b _ t q); left = rw (ok, leave_turn, there) (alone_left draws after b _ t q) }
+  turned i l k t g e =
+      let there = at_is b.machines (machines_rise b ok) x i no_machine l k in
+      let q = rw k at g in
+      record { told = rw (ok, leave_turn, there) (e ∙ turn_alone draws after b _ t q); left = rw (ok, leave_turn, there) (turn_leaves draws after b _ t q) }

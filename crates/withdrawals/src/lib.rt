@@ -6,7 +6,6 @@ ghost use Rattle.rules.specs.Places.{leave};
 ghost use Rattle.board.specs.Layout.{board_size};
 ghost use Rattle.steps.specs.Inner.{Steps};
 
-use board::layout::MOST_MACHINES;
 use sampling::Reader;
 use types::{Answer, Outcome, ValidatorId};
 
@@ -19,10 +18,9 @@ pub fn deactivate_to_insufficient_stake_held(
     requires { length board.old ≡ board_size }
     ensures { Steps (leave machine.0 draws.now) board.old board.new result }
 {
-    let i = rows::machine_row(board, machine);
-    if MOST_MACHINES <= i {
+    let Some(i) = rows::find_machine(board, machine) else {
         return steps::refusal(Answer::NoRecord);
-    }
-    let turned = exits::exit_placement(board, i, draws, Reader::start());
-    turned.told()
+    };
+    let turn = exits::exit_placement(board, i, draws, Reader::start());
+    pool::told(turn)
 }

@@ -1,5 +1,5 @@
 pub mod Tests
 pub mod Loops
-pub mod Marks
+pub mod Marked
 pub mod Turns
 pub mod Decides

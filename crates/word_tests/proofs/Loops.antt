@@ -20,10 +20,10 @@ module _ (F : List ℕ → Bool) (g : ℕ → List ℕ → Bool) (nil : F [] ≡
   step t i h = rw (add-one i) (ap F (drop-cons t i 0 h) ∙ cons _ _)
 
   -- without a branch: what was seen, and what is still to come
-  pub gather : (t : List ℕ) (i : ℕ) (ok : Bool) → i < length t → F t ≡ (ok && F (drop i t)) → F t ≡ (ok && g (get_or t i 0) (drop (i + 1) t) && F (drop (i + 1) t))
+  pub gather : {b : Bool} (t : List ℕ) (i : ℕ) (ok : Bool) → i < length t → b ≡ (ok && F (drop i t)) → b ≡ (ok && g (get_or t i 0) (drop (i + 1) t) && F (drop (i + 1) t))
   gather t i ok h e = e ∙ ap (λ (b : Bool). ok && b) (step t i h) ∙ sym (and_assoc ok (g (get_or t i 0) (drop (i + 1) t)) (F (drop (i + 1) t)))
 
-  pub gathered : (t : List ℕ) (i : ℕ) (ok : Bool) → length t ≤ i → F t ≡ (ok && F (drop i t)) → ok ≡ F t
+  pub gathered : {b : Bool} (t : List ℕ) (i : ℕ) (ok : Bool) → length t ≤ i → b ≡ (ok && F (drop i t)) → ok ≡ b
   gathered t i ok h e = sym (e ∙ ap (λ (b : Bool). ok && b) (ap F (drop_of_length-le t h) ∙ nil) ∙ and-true ok)
 
 -- ---- zeros

@@ -6,7 +6,7 @@ use mathlib.Core.Bool.{Bool, true, false, ◌&&◌, ◌||◌}
 use native.Mathlib.Omega.{arith}
 use borrow.Author.Tests.{le-leb, lt-leb, leb-true, eq-eqb, ne_eqb}
 use lib.Dec.{eqb, leb}
-use lib.ListN.{length, take, drop, length-drop}
+use lib.ListN.{length, take, drop}
 use lib.Seq.{drop-drop}
 use Rattle.rules.specs.Lists.{distinct}
 use Rattle.word_tests.specs.Tests.{at, all_pass, any_pass, all_zero, ids_ok, first_ok, rows_ok, table_ok}
@@ -22,14 +22,9 @@ pub ids_many : (cap : ℕ) (t : List ℕ) → cap < at t 0 → false ≡ ids_ok 
 unfolding ids_ok all_pass
 ids_many cap t h = simp (lt-leb (at t 0) cap h)
 
-pub ids_is : (cap : ℕ) (t : List ℕ) (d z : Bool) → at t 0 ≤ cap → d ≡ distinct (take (1 + at t 0 - 1) (drop 1 t))
-    → z ≡ all_zero (take (length t - (1 + at t 0)) (drop (1 + at t 0) t)) → (d && z) ≡ ids_ok cap t
+pub ids_is : (cap : ℕ) (t : List ℕ) (d z : Bool) → at t 0 ≤ cap → d ≡ distinct (take (at t 0) (drop 1 t)) → z ≡ all_zero (drop (at t 0) (drop 1 t)) → (d && z) ≡ ids_ok cap t
 unfolding ids_ok all_pass
-ids_is cap t d z h p q =
-    let e : 1 + at t 0 - 1 ≡ at t 0 = omega arith in
-    let p' : d ≡ distinct (take (at t 0) (drop 1 t)) = p ∙ ap (λ (n : ℕ). distinct (take n (drop 1 t))) e in
-    let q' : z ≡ all_zero (drop (at t 0) (drop 1 t)) = q ∙ ap all_zero (rest_is t (1 + at t 0) ∙ sym (drop-drop (at t 0) 1 t)) in
-    rw (le-leb (at t 0) cap h, p', q')
+ids_is cap t d z h p q = rw (le-leb (at t 0) cap h, p, q)
 
 -- ---- a table of any rows: v is the code's word for the width
 
@@ -48,19 +43,19 @@ module _ (ok : List ℕ → Bool) (lt : List ℕ → List ℕ → Bool) (w : ℕ
         let s' : o ≡ lt t (drop w t) = s ∙ ap (lt t) (rest_is t v ∙ ap (λ (u : ℕ). drop u t) e) in
         rw (l, p', s')
 
-    -- the same by branches: the row is bad; it is good and the last; it is good, and o tells whether it is below the next
-    module _ (n : ℕ) (t : List ℕ) (r : Bool) (h : v ≤ length t) (p : r ≡ ok (take v t)) where
-      abbrev next : Bool
-      next = lt t (take (length t - v) (drop v t))
+    -- the same by branches, of a row and what comes after it: the row is bad; it is good and the last; it is good, and o tells whether it is below the next
+    module _ (n : ℕ) (t row rest : List ℕ) (r : Bool) (h : v ≤ length t) (p : row ≡ take v t) (q : rest ≡ drop v t) (told : r ≡ ok row) where
+      first_by : (o : Bool) → o ≡ lt t rest → (r && (eqb n 1 || o)) ≡ first_ok ok lt w n t
+      first_by o s = first_is n t r o h (told ∙ ap ok p) (s ∙ ap (lt t) (q ∙ sym (rest_is t v)))
 
       pub first_bad : r ≡ false → false ≡ first_ok ok lt w n t
-      first_bad q = ap (λ (b : Bool). b && (eqb n 1 || next)) (sym q) ∙ first_is n t r next h p refl
+      first_bad f = ap (λ (b : Bool). b && (eqb n 1 || lt t rest)) (sym f) ∙ first_by (lt t rest) refl
 
       pub first_last : r ≡ true → n ≡ 1 → true ≡ first_ok ok lt w n t
-      first_last q one = rw (q, eq-eqb n 1 one) at (first_is n t r next h p refl)
+      first_last f one = rw (f, eq-eqb n 1 one) at (first_by (lt t rest) refl)
 
-      pub first_next : (o : Bool) → r ≡ true → (n ≡ 1 → ⊥) → o ≡ next → o ≡ first_ok ok lt w n t
-      first_next o q more s = rw (q, ne_eqb n 1 more) at (first_is n t r o h p s)
+      pub first_next : (o : Bool) → r ≡ true → (n ≡ 1 → ⊥) → o ≡ lt t rest → o ≡ first_ok ok lt w n t
+      first_next o f more s = rw (f, ne_eqb n 1 more) at (first_by o s)
 
   first_wide : (n : ℕ) (t : List ℕ) → first_ok ok lt w n t ≡ true → w ≤ length t
   unfolding first_ok all_pass any_pass
@@ -85,22 +80,32 @@ module _ (ok : List ℕ → Bool) (lt : List ℕ → List ℕ → Bool) (w : ℕ
     unfolding table_ok all_pass
     table_start h = let l : leb (at t 0) cap ≡ true = le-leb (at t 0) cap h in rw l
 
-    -- n rows are left, from a on; r is the test of the first of them
+    -- n rows are left, and then zeros; r is the test of the first of them
+    module _ (n : ℕ) (rest : List ℕ) (r : Bool) (inv : table_ok ok lt w cap t ≡ rows_ok ok lt w n rest) where
+      pub rows_end : n ≤ 0 → r ≡ all_zero rest → r ≡ table_ok ok lt w cap t
+      rows_end h q = q ∙ sym (inv ∙ rows_none n rest h)
+
+      module _ (h : 0 < n) (q : r ≡ first_ok ok lt w n rest) where
+        pub rows_fail : r ≡ false → false ≡ table_ok ok lt w cap t
+        rows_fail f = sym (inv ∙ rows_step n rest h ∙ and_cut (first_ok ok lt w n rest) (rows_ok ok lt w (n - 1) (drop w rest)) (sym q ∙ f))
+
+        pub rows_room : r ≡ true → w ≤ length rest
+        rows_room f = first_wide n rest (sym q ∙ f)
+
+        pub rows_more : r ≡ true → table_ok ok lt w cap t ≡ rows_ok ok lt w (n - 1) (drop w rest)
+        rows_more f = inv ∙ rows_step n rest h ∙ ap (λ (b : Bool). b && rows_ok ok lt w (n - 1) (drop w rest)) (sym q ∙ f)
+
+    -- the same of rows that begin at a
     module _ (n a v : ℕ) (r : Bool) (inv : table_ok ok lt w cap t ≡ rows_ok ok lt w n (drop a t)) where
       pub table_end : n ≤ 0 → r ≡ all_zero (take (length t - a) (drop a t)) → r ≡ table_ok ok lt w cap t
-      table_end h q = q ∙ ap all_zero (rest_is t a) ∙ sym (inv ∙ rows_none n (drop a t) h)
+      table_end h q = rows_end n (drop a t) r inv h (q ∙ ap all_zero (rest_is t a))
 
       module _ (h : 0 < n) (q : r ≡ first_ok ok lt w n (take (length t - a) (drop a t))) where
-        q' : first_ok ok lt w n (drop a t) ≡ r
-        q' = ap (first_ok ok lt w n) (sym (rest_is t a)) ∙ sym q
+        q' : r ≡ first_ok ok lt w n (drop a t)
+        q' = q ∙ ap (first_ok ok lt w n) (rest_is t a)
 
         pub table_fails : r ≡ false → false ≡ table_ok ok lt w cap t
-        table_fails f = sym (inv ∙ rows_step n (drop a t) h ∙ and_cut (first_ok ok lt w n (drop a t)) (rows_ok ok lt w (n - 1) (drop w (drop a t))) (q' ∙ f))
-
-        pub table_room : a ≤ length t → v ≡ w → r ≡ true → a + v ≤ length t
-        table_room l e f = omega (arith, first_wide n (drop a t) (q' ∙ f), length-drop a t)
+        table_fails f = rows_fail n (drop a t) r inv h q' f
 
         pub table_more : v ≡ w → r ≡ true → table_ok ok lt w cap t ≡ rows_ok ok lt w (n - 1) (drop (a + v) t)
-        table_more e f =
-            inv ∙ rows_step n (drop a t) h ∙ ap (λ (b : Bool). b && rows_ok ok lt w (n - 1) (drop w (drop a t))) (q' ∙ f)
-            ∙ ap (rows_ok ok lt w (n - 1)) (drop-drop w a t ∙ ap (λ (u : ℕ). drop (a + u) t) (sym e))
+        table_more e f = rows_more n (drop a t) r inv h q' f ∙ ap (rows_ok ok lt w (n - 1)) (drop-drop w a t ∙ ap (λ (u : ℕ). drop (a + u) t) (sym e))

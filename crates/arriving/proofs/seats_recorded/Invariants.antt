@@ -15,6 +15,3 @@ abbrev pub invariant-loop-k : goal.invariant-loop-k
 invariant-loop-k l = (l.k ≤ l.n) × (l.n ≤ most_seats)
     × ((b : Board) → Holds l.board b → well_formed b ≡ true → l.i < length b.reshapes
     → (l.n ≡ length (reshape_in l.i b).seats) × (every (known b) (keys_of (reshape_in l.i b).seats) ≡ every (known b) (keys_of (drop l.k (reshape_in l.i b).seats))))
-
-abbrev pub decreases-loop-k : goal.decreases-loop-k
-decreases-loop-k l = l.n - l.k

@@ -11,6 +11,3 @@ use Rattle.batches.proofs.targets.Given as goal
 abbrev pub invariant-loop-i : goal.invariant-loop-i
 invariant-loop-i l = (l.i ≤ l.n) × (l.n ≤ most_reshapes) × (l.k ≤ l.i) × (length l.out ≡ most_reshapes)
     × ((b : Board) → Holds l.board b → (l.n ≡ length b.reshapes) × (l.epoch.0 ≡ epoch_of b) × (take l.k l.out ++ keys_where (is_wanted l.which (epoch_of b)) (drop l.i b.reshapes) ≡ targets_of l.which b))
-
-abbrev pub decreases-loop-i : goal.decreases-loop-i
-decreases-loop-i l = l.n - l.i

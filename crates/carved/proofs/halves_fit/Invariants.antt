@@ -12,6 +12,3 @@ invariant-loop-k l = (l.k ≤ l.n) × (l.n ≤ most_machines)
     × ((b : Board) → Holds l.board b → l.i < length b.reshapes
     → (l.n ≡ length b.machines)
     × (every (is_in_one_half l.target.0 (get_or b.reshapes l.i no_reshape).val) b.machines ≡ every (is_in_one_half l.target.0 (get_or b.reshapes l.i no_reshape).val) (drop l.k b.machines)))
-
-abbrev pub decreases-loop-k : goal.decreases-loop-k
-decreases-loop-k l = l.n - l.k

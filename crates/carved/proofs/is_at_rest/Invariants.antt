@@ -12,6 +12,3 @@ abbrev pub invariant-loop-i : goal.invariant-loop-i
 invariant-loop-i l = (l.i ≤ l.n) × (l.n ≤ most_rotations)
     × ((b : Board) → Holds l.board b
     → (l.n ≡ length b.rotations) × (not (any (is_on l.shard.0) b.rotations) ≡ every (λ r. not (is_on l.shard.0 r)) (drop l.i b.rotations)))
-
-abbrev pub decreases-loop-i : goal.decreases-loop-i
-decreases-loop-i l = l.n - l.i

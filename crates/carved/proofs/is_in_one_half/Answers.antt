@@ -7,4 +7,4 @@ pub returns-then-not-is_seated_on : goal.returns-then-not-is_seated_on
 returns-then-not-is_seated_on c = λ b h l. not_seated _ _ _ _ (sym c.is_seated_on.ensures ∙ not-true _ c.if-not-is_seated_on.true-raw)
 
 pub returns : goal.returns
-returns c = λ b h l. seated_halved _ _ _ _ (sym c.is_seated_on.ensures ∙ not-false _ c.if-not-is_seated_on.false-raw) _ _ (c.is_in_left.ensures b h l) (c.is_in_right.ensures b h l)
+returns c = λ b h l. seated_halved _ _ _ _ (sym c.is_seated_on.ensures ∙ not-false _ c.if-not-is_seated_on.false-raw) _ _ (c.contains-is_left.ensures b h l) (c.contains-is_right.ensures b h l)

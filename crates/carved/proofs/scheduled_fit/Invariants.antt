@@ -13,6 +13,3 @@ use Rattle.carved.proofs.scheduled_fit.Given as goal
 abbrev pub invariant-loop-i : goal.invariant-loop-i
 invariant-loop-i l = (l.i ≤ l.n) × (l.n ≤ most_reshapes)
     × ((b : Board) → Holds l.board b → well_formed b ≡ true → (l.n ≡ length b.reshapes) × (scheduled_fit b ≡ every (split_fits b) (drop l.i b.reshapes)))
-
-abbrev pub decreases-loop-i : goal.decreases-loop-i
-decreases-loop-i l = l.n - l.i

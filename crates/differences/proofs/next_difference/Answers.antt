@@ -1,7 +1,7 @@
 use mathlib.Core.Path.{refl, sym, ◌∙◌}
 use native.Mathlib.Omega.{arith}
 use borrow.Author.Tests.{not-true, not-false}
-use Rattle.differences.proofs.Rows.{first_ends, second_ends, both_end, row_gone, row_new, row_changed, row_same}
+use Rattle.differences.proofs.Rows.{compared, first_ends, second_ends, both_end, row_gone, row_new, row_changed, row_same}
 use Rattle.differences.proofs.next_difference.Goals as goal
 
 pub loop-k-init : goal.loop-k-init
@@ -27,15 +27,15 @@ returns-then-rises-2 c = λ z rs qs o p.
     row_new _ o p c.loop-k.k c.loop-k.l _ _ c.row_at-row.ensures c.row_at-other.ensures (omega (arith, c.rows_in-n.ensures.1 z rs o)) (omega (arith, c.rows_in-m.ensures.1 z qs p))
     (sym c.rises.ensures ∙ c.if-rises.false) (sym c.rises-in-loop-k.ensures ∙ c.if-rises-2.true) ∙ c.loop-k.invariant z rs qs o p
 
-pub returns-then-not-same_words : goal.returns-then-not-same_words
-returns-then-not-same_words c = λ z rs qs o p.
+pub returns-then-ne : goal.returns-then-ne
+returns-then-ne c = λ z rs qs o p.
     row_changed _ o p c.loop-k.k c.loop-k.l _ _ c.row_at-row.ensures c.row_at-other.ensures (omega (arith, c.rows_in-n.ensures.1 z rs o)) (omega (arith, c.rows_in-m.ensures.1 z qs p))
-    (sym c.rises.ensures ∙ c.if-rises.false) (sym c.rises-in-loop-k.ensures ∙ c.if-rises-2.false) (sym c.same_words.ensures ∙ not-true _ c.if-not-same_words.true-raw) ∙ c.loop-k.invariant z rs qs o p
+    (sym c.rises.ensures ∙ c.if-rises.false) (sym c.rises-in-loop-k.ensures ∙ c.if-rises-2.false) (sym (compared _ _) ∙ not-true _ (sym c.if-ne.ensures)) ∙ c.loop-k.invariant z rs qs o p
 
 pub loop-k-preserved : goal.loop-k-preserved
 loop-k-preserved c = λ z rs qs o p.
     row_same _ o p c.loop-k.k c.loop-k.l _ _ c.row_at-row.ensures c.row_at-other.ensures (omega (arith, c.rows_in-n.ensures.1 z rs o)) (omega (arith, c.rows_in-m.ensures.1 z qs p))
-    (sym c.rises.ensures ∙ c.if-rises.false) (sym c.rises-in-loop-k.ensures ∙ c.if-rises-2.false) (sym c.same_words.ensures ∙ not-false _ c.if-not-same_words.false-raw) ∙ c.loop-k.invariant z rs qs o p
+    (sym c.rises.ensures ∙ c.if-rises.false) (sym c.rises-in-loop-k.ensures ∙ c.if-rises-2.false) (sym (compared _ _) ∙ not-false _ (sym c.if-ne.ensures)) ∙ c.loop-k.invariant z rs qs o p
 
 pub returns-then-l-m : goal.returns-then-l-m
 returns-then-l-m c = λ z rs qs o p.

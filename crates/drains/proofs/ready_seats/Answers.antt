@@ -21,19 +21,19 @@ loop-k-init c = (
 )
 
 pub overflow_add-ready : goal.overflow_add-ready
-overflow_add-ready c = omega (arith, c.bit.ensures, bit_most c.counts_at.result)
+overflow_add-ready c = omega (arith, c.from-ready.ensures, bit_most c.counts_at.result)
 
 pub loop-k-preserved : goal.loop-k-preserved
 loop-k-preserved c = let a = c.loop-k in
     let p = c.args in (
       omega arith,
       a.invariant.1,
-      omega (arith, c.bit.ensures, bit_most c.counts_at.result),
+      omega (arith, c.from-ready.ensures, bit_most c.counts_at.result),
       λ b h l.
           let t = a.invariant.3 b h l in
           let seats = (get_or b.reshapes p.i no_reshape).val.seats in
           let m : a.k < length seats = omega (arith, t.0, c.loop-k-test.true) in
-          let e : c.bit.result ≡ bit_of (counts_seat p.whose (get_or seats a.k no_seat).val) = c.bit.ensures ∙ ap bit_of (c.counts_at.ensures b h l m) in
+          let e : c.from-ready.result ≡ bit_of (counts_seat p.whose (get_or seats a.k no_seat).val) = c.from-ready.ensures ∙ ap bit_of (c.counts_at.ensures b h l m) in
           (t.0, omega (arith, t.1, e, count_next (λ (e : Entry Seat). counts_seat p.whose e.val) seats a.k no_seat m)),
     )
 

@@ -11,6 +11,3 @@ invariant-loop-k l = (l.k ≤ l.n) × (l.n ≤ most_seats) × (l.ready ≤ l.k)
     × ((b : Board) → Holds l.board b → l.i < length b.reshapes →
     (l.n ≡ length (get_or b.reshapes l.i no_reshape).val.seats)
     × (l.ready + count (λ (e : Entry Seat). counts_seat l.whose e.val) (drop l.k (get_or b.reshapes l.i no_reshape).val.seats) ≡ count_where (counts_seat l.whose) (get_or b.reshapes l.i no_reshape).val.seats))
-
-abbrev pub decreases-loop-k : goal.decreases-loop-k
-decreases-loop-k l = l.n - l.k

@@ -8,6 +8,6 @@ returns c = λ b h ok r.
     let ad = c.admitted_at-admitted.ensures b h r.inside in
     let m = marked_alone b ok _ _ r _ _ te ad _ (c.mark_bounds.ensures b h ok r.inside (terminal_good b ok _ _ r _ _ te ad) (admitted_good b ok _ _ r _ _ te ad)) in
     let n = c.set_terminal.ensures _ m r.inside in
-    let p = c.clear_left.ensures _ n (simp length-set r.inside) in
-    let q = c.clear_right.ensures _ p (simp length-set r.inside) in
+    let p = c.clear.ensures _ n (simp length-set r.inside) in
+    let q = c.clear-2.ensures _ p (simp length-set r.inside) in
     terminal_set b ok _ _ r _ _ te ad _ q

@@ -1,4 +1,4 @@
-use Prim.Native.Nat.{◌-◌, ◌≤◌, ◌<◌}
+use Prim.Native.Nat.{max, ◌≤◌, ◌<◌}
 use lib.ListN.{length, get_or}
 use Rattle.rules.specs.Board.{Board, most_rotations}
 use Rattle.board.specs.Held.{Holds, no_reshape}
@@ -7,7 +7,4 @@ use Rattle.faults.proofs.Seeking.{Seeks}
 use Rattle.faults.proofs.next_rotation_there.Given as goal
 
 abbrev pub invariant-loop-k : goal.invariant-loop-k
-invariant-loop-k l = (l.at ≤ l.k) × (l.n ≤ most_rotations) × ((b : Board) → Holds l.board b → l.i < length b.reshapes → Seeks (leaves_alone (get_or b.reshapes l.i no_reshape)) b.rotations l.at l.n l.k)
-
-abbrev pub decreases-loop-k : goal.decreases-loop-k
-decreases-loop-k l = l.n - l.k
+invariant-loop-k l = (l.k ≤ max l.at l.n) × (l.n ≤ most_rotations) × ((b : Board) → Holds l.board b → l.i < length b.reshapes → Seeks (leaves_alone (get_or b.reshapes l.i no_reshape)) b.rotations l.at l.n l.k)

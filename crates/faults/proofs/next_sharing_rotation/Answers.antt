@@ -1,4 +1,4 @@
-use mathlib.Core.Path.{refl, sym, ◌∙◌}
+use mathlib.Core.Path.{◌≡◌, refl, sym, ◌∙◌}
 use native.Mathlib.Omega.{arith}
 use Rattle.board.specs.Held.{no_rotation}
 use Rattle.parties.specs.Pairs.{share_party}
@@ -12,7 +12,7 @@ loop-k-init c = (omega arith, c.rows-n.ensures.0, λ b h l. record { rows = c.ro
 pub returns-then-share_party : goal.returns-then-share_party
 returns-then-share_party c =
     let a = c.loop-k in (
-      a.invariant.0,
+      a.auto.k,
       λ b h l.
           let s = a.invariant.2 b h l in
           let m = inside s c.loop-k-test.true in
@@ -31,4 +31,7 @@ loop-k-preserved c =
     )
 
 pub returns : goal.returns
-returns c = let a = c.loop-k in (a.invariant.0, λ b h l. ended (a.invariant.2 b h l) (omega (arith, c.loop-k-test.false)))
+returns c =
+    let a = c.loop-k in
+    let last : c.max.result ≡ a.k = omega (arith, c.max.ensures, a.invariant.0, c.loop-k-test.false) in
+    (omega (arith, c.max.ensures), λ b h l. last ∙ ended (a.invariant.2 b h l) (omega (arith, c.loop-k-test.false)))

@@ -1,4 +1,4 @@
-use Prim.Native.Nat.{◌-◌, ◌≤◌, ◌<◌}
+use Prim.Native.Nat.{max, ◌≤◌, ◌<◌}
 use mathlib.Core.Bool.{not}
 use lib.ListN.{length, get_or}
 use Rattle.rules.specs.Board.{Board, most_rotations}
@@ -8,7 +8,4 @@ use Rattle.faults.proofs.Seeking.{Seeks}
 use Rattle.faults.proofs.next_sharing_rotation.Given as goal
 
 abbrev pub invariant-loop-k : goal.invariant-loop-k
-invariant-loop-k l = (l.at ≤ l.k) × (l.n ≤ most_rotations) × ((b : Board) → Holds l.board b → l.i < length b.rotations → Seeks (λ q. not (share_party (get_or b.rotations l.i no_rotation) q)) b.rotations l.at l.n l.k)
-
-abbrev pub decreases-loop-k : goal.decreases-loop-k
-decreases-loop-k l = l.n - l.k
+invariant-loop-k l = (l.k ≤ max l.at l.n) × (l.n ≤ most_rotations) × ((b : Board) → Holds l.board b → l.i < length b.rotations → Seeks (λ q. not (share_party (get_or b.rotations l.i no_rotation) q)) b.rotations l.at l.n l.k)

@@ -1,4 +1,4 @@
-use mathlib.Core.Path.{refl, ap, sym, ◌∙◌}
+use mathlib.Core.Path.{◌≡◌, refl, ap, sym, ◌∙◌}
 use mathlib.Core.Bool.{true, not}
 use native.Mathlib.Omega.{arith}
 use Rattle.board.proofs.OfCommittees.{members_room}
@@ -12,7 +12,7 @@ loop-k-init c = (omega arith, c.rows_within-n.ensures.0, λ b h ok l. record { r
 pub returns-then-not-is_seated_on-observes_shard : goal.returns-then-not-is_seated_on-observes_shard
 returns-then-not-is_seated_on-observes_shard c =
     let a = c.loop-k in (
-      a.invariant.0,
+      a.auto.k,
       λ b h ok l.
           let s = a.invariant.2 b h ok l in
           let m = inside s c.loop-k-test.true in
@@ -31,4 +31,7 @@ loop-k-preserved c =
     )
 
 pub returns : goal.returns
-returns c = let a = c.loop-k in (a.invariant.0, λ b h ok l. ended (a.invariant.2 b h ok l) (omega (arith, c.loop-k-test.false)))
+returns c =
+    let a = c.loop-k in
+    let last : c.max.result ≡ a.k = omega (arith, c.max.ensures, a.invariant.0, c.loop-k-test.false) in
+    (omega (arith, c.max.ensures), λ b h ok l. last ∙ ended (a.invariant.2 b h ok l) (omega (arith, c.loop-k-test.false)))

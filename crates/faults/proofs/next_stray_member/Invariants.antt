@@ -1,4 +1,4 @@
-use Prim.Native.Nat.{◌-◌, ◌≤◌, ◌<◌}
+use Prim.Native.Nat.{max, ◌≤◌, ◌<◌}
 use mathlib.Core.Path.{◌≡◌}
 use mathlib.Core.Bool.{true}
 use lib.ListN.{length, get_or}
@@ -11,7 +11,4 @@ use Rattle.faults.proofs.Seeking.{Seeks}
 use Rattle.faults.proofs.next_stray_member.Given as goal
 
 abbrev pub invariant-loop-k : goal.invariant-loop-k
-invariant-loop-k l = (l.at ≤ l.k) × (l.n ≤ most_members) × ((b : Board) → Holds l.board b → well_formed b ≡ true → l.j < length b.committees → Seeks (says (is_here (get_or b.committees l.j no_committee).key) b) (get_or b.committees l.j no_committee).val l.at l.n l.k)
-
-abbrev pub decreases-loop-k : goal.decreases-loop-k
-decreases-loop-k l = l.n - l.k
+invariant-loop-k l = (l.k ≤ max l.at l.n) × (l.n ≤ most_members) × ((b : Board) → Holds l.board b → well_formed b ≡ true → l.j < length b.committees → Seeks (says (is_here (get_or b.committees l.j no_committee).key) b) (get_or b.committees l.j no_committee).val l.at l.n l.k)

@@ -1,4 +1,4 @@
-use mathlib.Core.Path.{refl, ap, sym, ◌∙◌}
+use mathlib.Core.Path.{◌≡◌, refl, ap, sym, ◌∙◌}
 use mathlib.Core.Bool.{true, not}
 use native.Mathlib.Omega.{arith}
 use Rattle.board.specs.Held.{no_reshape}
@@ -12,7 +12,7 @@ loop-i-init c = (omega arith, c.rows_within-n.ensures.0, λ b h ok. record { row
 pub returns-then-not-reshape_stands : goal.returns-then-not-reshape_stands
 returns-then-not-reshape_stands c =
     let a = c.loop-i in (
-      a.invariant.0,
+      a.auto.i,
       λ b h ok.
           let s = a.invariant.2 b h ok in
           let m = inside s c.loop-i-test.true in
@@ -31,4 +31,7 @@ loop-i-preserved c =
     )
 
 pub returns : goal.returns
-returns c = let a = c.loop-i in (a.invariant.0, λ b h ok. ended (a.invariant.2 b h ok) (omega (arith, c.loop-i-test.false)))
+returns c =
+    let a = c.loop-i in
+    let last : c.max.result ≡ a.i = omega (arith, c.max.ensures, a.invariant.0, c.loop-i-test.false) in
+    (omega (arith, c.max.ensures), λ b h ok. last ∙ ended (a.invariant.2 b h ok) (omega (arith, c.loop-i-test.false)))

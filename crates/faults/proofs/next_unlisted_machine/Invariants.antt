@@ -1,4 +1,4 @@
-use Prim.Native.Nat.{◌-◌, ◌≤◌}
+use Prim.Native.Nat.{max, ◌≤◌}
 use mathlib.Core.Path.{◌≡◌}
 use mathlib.Core.Bool.{true}
 use Rattle.rules.specs.Board.{Board, most_machines}
@@ -9,7 +9,4 @@ use Rattle.faults.proofs.Seeking.{Seeks}
 use Rattle.faults.proofs.next_unlisted_machine.Given as goal
 
 abbrev pub invariant-loop-i : goal.invariant-loop-i
-invariant-loop-i l = (l.at ≤ l.i) × (l.n ≤ most_machines) × ((b : Board) → Holds l.board b → well_formed b ≡ true → Seeks (is_listed_row b) b.machines l.at l.n l.i)
-
-abbrev pub decreases-loop-i : goal.decreases-loop-i
-decreases-loop-i l = l.n - l.i
+invariant-loop-i l = (l.i ≤ max l.at l.n) × (l.n ≤ most_machines) × ((b : Board) → Holds l.board b → well_formed b ≡ true → Seeks (is_listed_row b) b.machines l.at l.n l.i)

@@ -1,4 +1,4 @@
-use Prim.Native.Nat.{◌-◌, ◌≤◌, ◌<◌}
+use Prim.Native.Nat.{◌≤◌, ◌<◌}
 use mathlib.Core.Path.{◌≡◌}
 use lib.ListN.{length}
 use Rattle.rules.specs.Board.{Board, on_committees}
@@ -8,6 +8,3 @@ use Rattle.folding.proofs.free_higher.Given as goal
 
 abbrev pub invariant-loop-i : goal.invariant-loop-i
 invariant-loop-i l = (l.j ≤ l.i) × (l.i ≤ l.k) × (length l.ws ≡ length l.initial.ws) × ((b : Board) → Holds l.initial.ws b → l.k < length b.committees → Holds l.ws (on_committees (freed l.j l.i) b))
-
-abbrev pub decreases-loop-i : goal.decreases-loop-i
-decreases-loop-i l = l.k - l.i

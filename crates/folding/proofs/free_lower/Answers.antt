@@ -1,4 +1,4 @@
-use Prim.Native.Nat.{ℕ}
+use Prim.Native.Nat.{ℕ, ◌+◌, ◌-◌}
 use mathlib.Core.Path.{◌≡◌, refl, ap, ◌∙◌}
 use native.Mathlib.Omega.{arith}
 use Rattle.rules.specs.Board.{on_committees}
@@ -16,7 +16,7 @@ loop-i-preserved c =
       omega arith,
       omega (arith, a.invariant.1),
       c.copy_row.auto.ws ∙ a.invariant.2,
-      λ b h l. moved_lower b c.args.j l _ _ a.i (a.invariant.3 b h l) (omega arith) a.invariant.1 c.copy_row.ensures,
+      λ b h l. moved_lower b c.args.j l _ _ a.i (a.invariant.3 b h l) (a.i - 1 + 1) (omega arith) (omega arith) a.invariant.1 c.copy_row.ensures,
     )
 
 pub returns : goal.returns

@@ -1,4 +1,4 @@
-use Prim.Native.Nat.{◌+◌, ◌-◌, ◌≤◌, ◌<◌}
+use Prim.Native.Nat.{◌+◌, ◌≤◌, ◌<◌}
 use mathlib.Core.Path.{◌≡◌}
 use mathlib.Core.Bool.{true}
 use lib.ListN.{length, get_or, take}
@@ -15,6 +15,3 @@ invariant-loop-i l = (l.i ≤ l.n) × (l.n ≤ most_members) × (l.counts.ready 
     (l.n ≡ length (get_or b.committees l.j no_committee).val)
     × Filled Ready l.shard.0 b (get_or b.committees l.j no_committee).val (take l.counts.ready l.ready) l.i
     × Filled Waiting l.shard.0 b (get_or b.committees l.j no_committee).val (take l.counts.waiting l.waiting) l.i)
-
-abbrev pub decreases-loop-i : goal.decreases-loop-i
-decreases-loop-i l = l.n - l.i

@@ -1,4 +1,4 @@
-use Prim.Native.Nat.{◌-◌, ◌≤◌, ◌<◌}
+use Prim.Native.Nat.{◌≤◌, ◌<◌}
 use mathlib.Core.Path.{◌≡◌}
 use mathlib.Core.Bool.{true}
 use lib.ListN.{length, get_or, take}
@@ -13,6 +13,3 @@ abbrev pub invariant-loop-i : goal.invariant-loop-i
 invariant-loop-i l = (l.i ≤ l.n) × (l.n ≤ most_members) × (l.k ≤ l.i) × (length l.out ≡ most_members)
     × ((b : Board) → Holds l.board b → well_formed b ≡ true → l.j < length b.committees →
     (l.n ≡ length (get_or b.committees l.j no_committee).val) × Filled Staying l.shard.0 b (get_or b.committees l.j no_committee).val (take l.k l.out) l.i)
-
-abbrev pub decreases-loop-i : goal.decreases-loop-i
-decreases-loop-i l = l.n - l.i

@@ -10,9 +10,6 @@ use Rattle.rules.specs.Moves.{says}
 use Rattle.board.specs.Held.{Holds}
 use Rattle.halving.proofs.ready_members.Given as goal
 
-abbrev pub invariant-loop-k : goal.invariant-loop-k
-invariant-loop-k l = (l.k ≤ length l.ids) × (l.ready ≤ l.k)
-    × ((b : Board) → Holds l.board b → well_formed b ≡ true → l.ready + count (says is_ready b) (drop l.k l.ids) ≡ count (says is_ready b) l.ids)
-
-abbrev pub decreases-loop-k : goal.decreases-loop-k
-decreases-loop-k l = length l.ids - l.k
+abbrev pub invariant-loop-id : goal.invariant-loop-id
+invariant-loop-id l = (l.id-index ≤ length l.ids) × (l.ready ≤ l.id-index)
+    × ((b : Board) → Holds l.board b → well_formed b ≡ true → l.ready + count (says is_ready b) (drop l.id-index l.ids) ≡ count (says is_ready b) l.ids)

@@ -4,25 +4,25 @@ use lib.ListN.{take, length-set, length-take}
 use Rattle.halving.proofs.Halves.{none_stored, half_long, one_stored, all_stored}
 use Rattle.halving.proofs.store_half.Goals as goal
 
-pub loop-k-init : goal.loop-k-init
-loop-k-init c = (omega arith, refl, λ b h l m. none_stored b _ l c.args.left _ h)
+pub loop-id-init : goal.loop-id-init
+loop-id-init c = (omega arith, refl, λ b h l m. none_stored b _ l c.args.side _ h)
 
 pub push-requires : goal.push-requires
-push-requires c = (c.loop-k.invariant.1 ∙ c.requires.0, c.requires.1)
+push-requires c = (c.loop-id.invariant.1 ∙ c.requires.0, c.requires.1)
 
-pub loop-k-preserved : goal.loop-k-preserved
-loop-k-preserved c = let a = c.loop-k in
+pub loop-id-preserved : goal.loop-id-preserved
+loop-id-preserved c = let a = c.loop-id in
     let p = c.args in (
       omega arith,
-      c.push.auto.board ∙ a.invariant.1,
+      c.push.auto.ws ∙ a.invariant.1,
       λ b h l m.
-          let d = length-take a.k p.half.now in
-          let r = half_long b p.i l p.left (take a.k p.half.now) in
-          one_stored b p.i l p.left p.half.now a.k c.loop-k-test.true _ (c.push.ensures _ (a.invariant.2 b h l m) (simp length-set l) (omega (arith, d, r, c.loop-k-test.true))),
+          let d = length-take a.id-index p.half.now in
+          let r = half_long b p.i l p.side (take a.id-index p.half.now) in
+          one_stored b p.i l p.side p.half.now a.id-index c.loop-id-test.true _ (c.push.ensures _ (a.invariant.2 b h l m) (simp length-set l) (omega (arith, d, r, c.loop-id-test.true))),
     )
 
 pub returns : goal.returns
 returns c = λ b h l m.
-    let a = c.loop-k in
+    let a = c.loop-id in
     let p = c.args in
-    all_stored b p.i l p.left p.half.now a.k c.loop-k-test.false _ (a.invariant.2 b h l m)
+    all_stored b p.i l p.side p.half.now a.id-index c.loop-id-test.false _ (a.invariant.2 b h l m)

@@ -7,12 +7,12 @@ use Rattle.joining.proofs.may_replace.Goals as goal
 pub has_member-requires : goal.has_member-requires
 has_member-requires c = (c.requires, c.stands_at.ensures.0 c.if-stands_at.true)
 
-pub returns-then-has_member-new : goal.returns-then-has_member-new
-returns-then-has_member-new c = λ b h r.
+pub returns-then-has_member-ne : goal.returns-then-has_member-ne
+returns-then-has_member-ne c = λ b h r.
     let je = c.place_of-j.ensures.1 b h r in
     let q = sym (c.stands_at.ensures.1 b h ∙ stands_is b _ r _ je) ∙ c.if-stands_at.true in
     let l = (row_here b _ r _ je q).0 in
-    replace_member _ _ _ b _ (members_are b _ r _ je q) q (rw (c.has_member.ensures b h l) at c.if-has_member-new.true)
+    replace_member _ _ _ b _ (members_are b _ r _ je q) q (rw (c.has_member.ensures b h l, c.ne.ensures) at c.if-has_member-ne.true)
 
 pub has_member-requires-then-stands_at : goal.has_member-requires-then-stands_at
 has_member-requires-then-stands_at c = (c.requires, c.stands_at.ensures.0 c.if-stands_at.true)
@@ -22,7 +22,7 @@ returns-then-has_member c = λ b h r.
     let je = c.place_of-j.ensures.1 b h r in
     let q = sym (c.stands_at.ensures.1 b h ∙ stands_is b _ r _ je) ∙ c.if-stands_at.true in
     let l = (row_here b _ r _ je q).0 in
-    replace_own _ _ _ b _ (members_are b _ r _ je q) q (rw (c.has_member.ensures b h l) at c.if-has_member-new.false) (sym (c.has_member-then-stands_at.ensures b h l) ∙ c.if-has_member.true) (members_room _ b h _ l)
+    replace_own _ _ _ b _ (members_are b _ r _ je q) q (rw (c.has_member.ensures b h l, c.ne.ensures) at c.if-has_member-ne.false) (sym (c.has_member-then-stands_at.ensures b h l) ∙ c.if-has_member.true) (members_room _ b h _ l)
 
 pub member_count-members-requires : goal.member_count-members-requires
 member_count-members-requires c = (c.requires, c.stands_at.ensures.0 c.if-stands_at.true)
@@ -32,7 +32,7 @@ returns-then-stands_at c = λ b h r.
     let je = c.place_of-j.ensures.1 b h r in
     let q = sym (c.stands_at.ensures.1 b h ∙ stands_is b _ r _ je) ∙ c.if-stands_at.true in
     let l = (row_here b _ r _ je q).0 in
-    rw (c.member_count-members.ensures b h l) (replace_room _ _ _ b _ (members_are b _ r _ je q) q (rw (c.has_member.ensures b h l) at c.if-has_member-new.false) (sym (c.has_member-then-stands_at.ensures b h l) ∙ c.if-has_member.false))
+    rw (c.member_count-members.ensures b h l) (replace_room _ _ _ b _ (members_are b _ r _ je q) q (rw (c.has_member.ensures b h l, c.ne.ensures) at c.if-has_member-ne.false) (sym (c.has_member-then-stands_at.ensures b h l) ∙ c.if-has_member.false))
 
 pub returns : goal.returns
 returns c = λ b h r.

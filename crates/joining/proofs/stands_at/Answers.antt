@@ -20,5 +20,5 @@ returns c = (
   λ e. omega arith,
   λ b h.
       let l : c.args.row < length b.committees = omega (arith, c.count.ensures b h, c.if-count-row.false) in
-      rw (lt-ltb _ _ l, c.shard_at-there.ensures b h l),
+      rw (lt-ltb _ _ l, c.eq.ensures, c.shard_at.ensures b h l),
 )

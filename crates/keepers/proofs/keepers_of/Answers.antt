@@ -1,10 +1,9 @@
-use mathlib.Core.Path.{sym, ◌∙◌}
+use mathlib.Core.Path.{sym}
 use Prim.Native.Nat.{◌≤◌}
 use native.Mathlib.Omega.{arith}
 use lib.ListN.{length, drop}
 use lib.Seq.{length-take-le, take-append-le}
 use Rattle.keepers.proofs.Drawing.{keepers_are}
-use borrow.Author.Rules.{rules}
 use Rattle.keepers.proofs.keepers_of.Goals as goal
 
 pub slice_bounds-gather_seated-end-2 : goal.slice_bounds-gather_seated-end-2
@@ -16,16 +15,11 @@ gather_seated-counts-requires c = let p = c.requires in (p.0, length-take-le 96 
 pub slice_bounds-draw_share-end-2 : goal.slice_bounds-draw_share-end-2
 slice_bounds-draw_share-end-2 c = let e = c.gather_seated-counts.ensures in sym (length-take-le _ _ (omega (arith, e.0, e.2)))
 
-pub returns : goal.returns
-returns c =
+pub returns-clause-tells : goal.returns-clause-tells
+returns-clause-tells c = λ b h ok.
     let e = c.gather_seated-counts.ensures in
     let k = c.gather_seated-counts.result.ready in
     let ready = c.gather_seated-counts.new.ready in
     let l : k ≤ length ready = omega (arith, e.0, e.1) in
-    let f = c.draw_share.ensures in (
-      f.0 ∙ search rules,
-      f.1,
-      λ b h ok.
-          let g = e.3 b h ok in
-          rw (keepers_are _ _ b _) (rw (take-append-le k ready (drop 96 c.args.out.now) l, g.0, g.1) at f.2),
-    )
+    let g = e.3 b h ok in
+    rw (keepers_are _ _ b _) (rw (take-append-le k ready (drop 96 c.args.out.now) l, g.0, g.1) at c.draw_share.ensures.tells)

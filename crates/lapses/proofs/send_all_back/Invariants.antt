@@ -12,6 +12,3 @@ use Rattle.lapses.proofs.send_all_back.Given as goal
 abbrev pub invariant-loop-k : goal.invariant-loop-k
 invariant-loop-k l = (l.k ≤ l.n) × (l.n ≤ most_seats) × (l.r ≤ l.k) × (length l.board ≡ length l.initial.board)
     × ((b : Board) → Holds l.initial.board b → well_formed b ≡ true → l.i < length b.reshapes → (l.n ≡ length (seats_in_row l.i b)) × Gone l.target.0 l.i b l.k l.r l.board)
-
-abbrev pub decreases-loop-k : goal.decreases-loop-k
-decreases-loop-k l = l.n - l.k

@@ -1,4 +1,4 @@
-use Prim.Native.Nat.{◌-◌, ◌≤◌}
+use Prim.Native.Nat.{◌≤◌}
 use mathlib.Core.Path.{◌≡◌}
 use lib.ListN.{length}
 use Rattle.rules.specs.Board.{Board, most_machines}
@@ -8,6 +8,3 @@ use Rattle.lifecycle.proofs.auto_ready_timeout_held.Given as goal
 
 abbrev pub invariant-loop-i : goal.invariant-loop-i
 invariant-loop-i l = (l.i ≤ l.n) × (l.n ≤ most_machines) × (l.k ≤ l.i) × (length l.board ≡ length l.initial.board) × ((b : Board) → Holds l.initial.board b → SoFar b l.epoch.0 l.wait l.n l.k l.i l.board)
-
-abbrev pub decreases-loop-i : goal.decreases-loop-i
-decreases-loop-i l = l.n - l.i

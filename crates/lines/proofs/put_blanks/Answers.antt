@@ -1,23 +1,9 @@
-use Prim.Native.Nat.{ℕ}
-use native.Mathlib.Omega.{arith}
-use lib.ListN.{length-replicate}
-use Rattle.lines.proofs.Lays.{puts_none, blanks_turn, puts_stopped, puts_ended}
+use Rattle.std.proofs.Common.{arith}
+use Rattle.lines.proofs.Lays.{puts_past, blanks_fitting}
 use Rattle.lines.proofs.put_blanks.Goals as goal
 
-pub loop-i-init : goal.loop-i-init
-loop-i-init c = (omega arith, puts_none _ _)
-
-pub shape_of-line-then-line-a : goal.shape_of-line-then-line-a
-shape_of-line-then-line-a c = c.loop-i.invariant.1.room
-
-pub returns-then-line-a : goal.returns-then-line-a
-returns-then-line-a c = puts_stopped _ c.loop-i.i c.loop-i.invariant.1 (omega arith)
-
-pub loop-i-preserved : goal.loop-i-preserved
-loop-i-preserved c = (omega arith, blanks_turn c.args.n c.loop-i.i c.loop-i.invariant.1 (omega arith) (omega arith))
-
-pub shape_of-line : goal.shape_of-line
-shape_of-line c = c.loop-i.invariant.1.room
+pub returns-then-line-at : goal.returns-then-line-at
+returns-then-line-at c = puts_past _ _ _ c.if-line-at.true
 
 pub returns : goal.returns
-returns c = puts_ended _ c.loop-i.i c.loop-i.invariant.1 (omega (arith, length-replicate {A = ℕ} c.args.n 32))
+returns c = blanks_fitting _ _ c.args.at c.min-fitting.result c.args.n (omega arith) c.min-fitting.ensures (c.fill.ensures.after (λ y h. h))

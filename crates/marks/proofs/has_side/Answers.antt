@@ -1,9 +1,11 @@
-use mathlib.Core.Path.{ap, ◌∙◌}
-use mathlib.Core.Bool.{Bool}
-use lib.Dec.{eqb}
+use mathlib.Core.Path.{refl}
 use Rattle.rules.specs.Lists.{◌or◌}
-use Rattle.tables.proofs.Bools.{or_is}
 use Rattle.marks.proofs.has_side.Goals as goal
 
-pub returns : goal.returns
-returns c = λ b h l. or_is _ _ ∙ ap (λ (m : Bool). eqb c.args.side 0 or m) (c.is_merge-merging.ensures b h l)
+pub returns-in-Left : goal.returns-in-Left
+unfolding ◌or◌
+returns-in-Left c = λ b h l. rw c.in-Left.is refl
+
+pub returns-in-Right : goal.returns-in-Right
+unfolding ◌or◌
+returns-in-Right c = λ b h l. rw c.in-Right.is (c.is_merge.ensures b h l)

@@ -1,10 +1,7 @@
 use mathlib.Core.Path.{ap, ◌∙◌}
-use mathlib.Core.Bool.{Bool, not}
-use Rattle.moves.proofs.Exiting.{kind_merge, kind_split}
+use mathlib.Core.Bool.{Bool, beq}
+use Rattle.moves.proofs.Exiting.{kind_asked}
 use Rattle.moves.proofs.is_of_kind.Goals as goal
 
-pub returns-then-merging : goal.returns-then-merging
-returns-then-merging c = λ b h l. c.is_merge-merges.ensures b h l ∙ kind_merge _ _ c.if-merging.true
-
 pub returns : goal.returns
-returns c = λ b h l. ap (λ (m : Bool). not m) (c.is_merge-merges.ensures b h l) ∙ kind_split _ _ c.if-merging.false
+returns c = λ b h l. ap (λ (m : Bool). beq m c.args.merging) (c.is_merge.ensures b h l) ∙ kind_asked c.args.merging _

@@ -4,13 +4,11 @@ use Rattle.moves.specs.Exits.{exit_of}
 use Rattle.moves.proofs.Exiting.{no_record, record_placed}
 use Rattle.moves.proofs.place.Goals as goal
 
-pub returns-then-i-ge-MOST_MACHINES : goal.returns-then-i-ge-MOST_MACHINES
-returns-then-i-ge-MOST_MACHINES c = λ b h ok. no_record b ok _ _ _ _ (c.machine_row-i.ensures b h ok) c.if-i-ge-MOST_MACHINES.true h
+pub returns-in_default : goal.returns-in_default
+returns-in_default c = λ b h ok. no_record b ok _ _ _ (c.in_default.ensures.found b h ok) h
 
 pub returns : goal.returns
 returns c = λ b h ok.
-    let f = c.machine_row-i.ensures b h ok in
-    let l = c.if-i-ge-MOST_MACHINES.false in
-    let a = c.args in
-    let e = c.place_after-after.ensures ∙ ap (λ (m : Machine). exit_of a.how a.shard.0 m.place) (c.at-machine.ensures b h (f.inside l)) in
-    record_placed b ok _ _ _ _ f _ l e (c.put.ensures b h (f.inside l))
+    let f = c.in-Some.ensures.found b h ok in
+    let e = c.place_after-place.ensures ∙ ap (λ (m : Machine). exit_of c.args.how m.place) (c.at-machine.ensures b h f.0) in
+    record_placed b ok _ _ _ _ f.0 f.1 _ e (c.put.ensures b h f.0)

@@ -1,6 +1,5 @@
 use mathlib.Core.Path.{sym, ◌∙◌}
 use native.Mathlib.Omega.{arith}
-use Rattle.numerals.proofs.Decimals.{numeral_some, numeral_none}
 use Rattle.numerals.proofs.Walks.{walk_starts, walk_skips, walk_ends, walk_stops, walk_full, walk_takes, run_goes_on}
 use Rattle.numerals.proofs.numbers.Goals as goal
 
@@ -23,8 +22,9 @@ shape_of-out-in_default c = c.loop-at.invariant.1.room
 pub returns-in_default : goal.returns-in_default
 returns-in_default c =
     let b = sym c.between.ensures ∙ c.if-between.false in
-    let d = numeral_none _ (sym c.parse.ensures ∙ c.in_default.is) in
-    walk_stops _ _ c.loop-at.at c.loop-at.n c.loop-at.out c.loop-at.invariant.1 c.piece_end-e.result (omega arith) b c.piece_end-e.ensures.1 d
+    let d = sym c.parse.ensures ∙ c.in_default.is in
+    let w = walk_stops _ _ c.loop-at.at c.loop-at.n c.loop-at.out c.loop-at.invariant.1 c.piece_end-e.result (omega arith) b c.piece_end-e.ensures.1 d in
+    (w.0, w.1, tt)
 
 pub shape_of-out-then-out-n : goal.shape_of-out-then-out-n
 shape_of-out-then-out-n c = c.loop-at.invariant.1.room
@@ -32,8 +32,9 @@ shape_of-out-then-out-n c = c.loop-at.invariant.1.room
 pub returns-then-out-n : goal.returns-then-out-n
 returns-then-out-n c =
     let b = sym c.between.ensures ∙ c.if-between.false in
-    let d = numeral_some _ _ (sym c.parse.ensures ∙ c.in-Number.is) in
-    walk_full _ _ c.loop-at.at c.loop-at.n c.loop-at.out c.loop-at.invariant.1 c.piece_end-e.result (omega arith) b c.piece_end-e.ensures.1 _ d (omega arith)
+    let d = sym c.parse.ensures ∙ c.in-Some.is in
+    let w = walk_full _ _ c.loop-at.at c.loop-at.n c.loop-at.out c.loop-at.invariant.1 c.piece_end-e.result (omega arith) b c.piece_end-e.ensures.1 _ d (omega arith) in
+    (w.0, w.1, tt)
 
 pub loop-at-smaller : goal.loop-at-smaller
 loop-at-smaller c =
@@ -43,7 +44,7 @@ loop-at-smaller c =
 pub loop-at-preserved : goal.loop-at-preserved
 loop-at-preserved c =
     let b = sym c.between.ensures ∙ c.if-between.false in
-    let d = numeral_some _ _ (sym c.parse.ensures ∙ c.in-Number.is) in (
+    let d = sym c.parse.ensures ∙ c.in-Some.is in (
       c.piece_end-e.ensures.0,
       walk_takes _ _ c.loop-at.at c.loop-at.n c.loop-at.out c.loop-at.invariant.1 c.piece_end-e.result (omega arith) b c.piece_end-e.ensures.1 _ d (omega arith),
     )
@@ -52,4 +53,6 @@ pub shape_of-out : goal.shape_of-out
 shape_of-out c = c.loop-at.invariant.1.room
 
 pub returns : goal.returns
-returns c = walk_ends _ _ c.loop-at.at c.loop-at.n c.loop-at.out c.loop-at.invariant.1 (omega arith)
+returns c =
+    let w = walk_ends _ _ c.loop-at.at c.loop-at.n c.loop-at.out c.loop-at.invariant.1 (omega arith) in
+    (w.0, w.1, omega (arith, c.loop-at.invariant.1.within, c.loop-at.invariant.1.room))

@@ -18,6 +18,3 @@ invariant-loop-k l = (l.k ≤ l.n) × (l.n ≤ most_seats)
     → (l.n ≡ length (get_or b.reshapes l.i no_reshape).val.seats)
     × (cohort_watches b (get_or b.reshapes l.i no_reshape)
     ≡ every (says (observes (get_or b.reshapes l.i no_reshape).key) b) (keys_of (drop l.k (get_or b.reshapes l.i no_reshape).val.seats))))
-
-abbrev pub decreases-loop-k : goal.decreases-loop-k
-decreases-loop-k l = l.n - l.k

@@ -16,6 +16,3 @@ invariant-loop-k l = (l.k ≤ l.n) × (l.n ≤ most_members)
     → (l.n ≡ length (get_or b.committees l.j no_committee).val)
     × (committee_is_there b (get_or b.committees l.j no_committee)
     ≡ every (says (is_here (get_or b.committees l.j no_committee).key) b) (drop l.k (get_or b.committees l.j no_committee).val)))
-
-abbrev pub decreases-loop-k : goal.decreases-loop-k
-decreases-loop-k l = l.n - l.k

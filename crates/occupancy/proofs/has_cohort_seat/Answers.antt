@@ -1,23 +1,20 @@
 use mathlib.Core.Path.{sym, ◌∙◌}
-use Rattle.rules.specs.Board.{most_seats}
 use Rattle.board.specs.Held.{no_seat}
 use Rattle.board.proofs.Keyed.{seats_rise}
-use Rattle.rows.proofs.Asked.{found_stands}
+use Rattle.rows.proofs.Asked.{finds_stands}
 use Rattle.occupancy.proofs.Occupied.{no_reshape_lem, merge_there, split_there}
 use Rattle.occupancy.proofs.has_cohort_seat.Goals as goal
 
-pub returns-then-i-ge-MOST_RESHAPES : goal.returns-then-i-ge-MOST_RESHAPES
-returns-then-i-ge-MOST_RESHAPES c = λ b h ok. no_reshape_lem _ _ b ok _ (c.reshape_row-i.ensures b h ok) c.if-i-ge-MOST_RESHAPES.true
+pub returns-in_default : goal.returns-in_default
+returns-in_default c = λ b h ok. no_reshape_lem _ _ b ok (c.in_default.ensures.found b h ok)
 
 pub returns-then-is_merge : goal.returns-then-is_merge
 returns-then-is_merge c = λ b h ok.
-    let f = c.reshape_row-i.ensures b h ok in
-    let l = c.if-i-ge-MOST_RESHAPES.false in
-    merge_there _ _ b ok _ f l (sym (c.is_merge.ensures b h (f.inside l)) ∙ c.if-is_merge.true)
+    let f = c.in-Some.ensures.found b h ok in
+    merge_there _ _ b ok _ f (sym (c.is_merge.ensures b h f.0) ∙ c.if-is_merge.true)
 
 pub returns : goal.returns
 returns c = λ b h ok.
-    let f = c.reshape_row-i.ensures b h ok in
-    let l = c.if-i-ge-MOST_RESHAPES.false in
-    found_stands most_seats _ no_seat _ _ (seats_rise b ok _ (f.inside l)) (c.seat_row.ensures b h ok (f.inside l))
-    ∙ split_there _ _ b ok _ f l (sym (c.is_merge.ensures b h (f.inside l)) ∙ c.if-is_merge.false)
+    let f = c.in-Some.ensures.found b h ok in
+    c.is_some.ensures ∙ finds_stands _ no_seat _ _ (seats_rise b ok _ f.0) (c.find_seat.ensures.found b h ok f.0)
+    ∙ split_there _ _ b ok _ f (sym (c.is_merge.ensures b h f.0) ∙ c.if-is_merge.false)

@@ -12,6 +12,3 @@ use Rattle.occupancy.proofs.machines_are_listed.Given as goal
 abbrev pub invariant-loop-i : goal.invariant-loop-i
 invariant-loop-i l = (l.i ≤ l.n) × (l.n ≤ most_machines)
     × ((b : Board) → Holds l.board b → well_formed b ≡ true → (l.n ≡ length b.machines) × (machines_are_listed b ≡ every (λ e. is_listed b e.key e.val) (drop l.i b.machines)))
-
-abbrev pub decreases-loop-i : goal.decreases-loop-i
-decreases-loop-i l = l.n - l.i

@@ -13,6 +13,3 @@ use Rattle.occupancy.proofs.members_are_there.Given as goal
 abbrev pub invariant-loop-j : goal.invariant-loop-j
 invariant-loop-j l = (l.j ≤ l.n) × (l.n ≤ most_committees)
     × ((b : Board) → Holds l.board b → well_formed b ≡ true → (l.n ≡ length b.committees) × (members_are_there b ≡ every (committee_is_there b) (drop l.j b.committees)))
-
-abbrev pub decreases-loop-j : goal.decreases-loop-j
-decreases-loop-j l = l.n - l.j

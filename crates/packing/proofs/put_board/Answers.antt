@@ -1,7 +1,7 @@
 use lib.ListN.{take}
 use Rattle.rules.specs.Board.{most_machines, most_committees}
 use Rattle.board.specs.Layout.{machine_width, machines_at, committees_at, bounds_at}
-use Rattle.packing.specs.declared.Nested.TheVariants.{Committees}
+use Rattle.row_tests.specs.declared.RowKind.TheVariants.{Committees}
 use Rattle.packing.specs.Packed.{between, flat, nested}
 use Rattle.packing.proofs.Lefts.{room, next, last_room, last}
 use Rattle.packing.proofs.Puts.{words_put}

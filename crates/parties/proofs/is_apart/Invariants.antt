@@ -10,6 +10,3 @@ use Rattle.parties.proofs.is_apart.Given as goal
 abbrev pub invariant-loop-k : goal.invariant-loop-k
 invariant-loop-k l = (l.n ≤ most_rotations)
     × ((b : Board) → Holds l.board b → (l.n ≡ length b.rotations) × (apart (rotation_of l.p) (drop (l.i + 1) b.rotations) ≡ apart (rotation_of l.p) (drop l.k b.rotations)))
-
-abbrev pub decreases-loop-k : goal.decreases-loop-k
-decreases-loop-k l = l.n - l.k

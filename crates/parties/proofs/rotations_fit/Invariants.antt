@@ -12,6 +12,3 @@ use Rattle.parties.proofs.rotations_fit.Given as goal
 abbrev pub invariant-loop-i : goal.invariant-loop-i
 invariant-loop-i l = (l.i ≤ l.n) × (l.n ≤ most_rotations)
     × ((b : Board) → Holds l.board b → well_formed b ≡ true → (l.n ≡ length b.rotations) × (rotations_fit b ≡ pairwise b (drop l.i b.rotations)))
-
-abbrev pub decreases-loop-i : goal.decreases-loop-i
-decreases-loop-i l = l.n - l.i

@@ -9,4 +9,4 @@ returns-then-ready c = rw c.if-ready.true c.put_column.ensures
 
 pub returns : goal.returns
 unfolding bytes seated_text
-returns c = rw c.if-ready.false (puts_both c.put_column-a.ensures (rw c.wrapping_add_u64-by.ensures.value at c.put_column-2.ensures))
+returns c = rw c.if-ready.false (puts_both c.put_column-a.ensures c.put_column-2.ensures)

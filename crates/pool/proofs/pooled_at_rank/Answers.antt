@@ -1,4 +1,4 @@
-use Prim.Native.Nat.{◌<◌}
+use Prim.Native.Nat.{ℕ, ◌≤◌, ◌<◌}
 use mathlib.Core.Path.{◌≡◌, refl, ap, sym, ◌∙◌}
 use mathlib.Core.Bool.{true}
 use native.Mathlib.Omega.{arith}
@@ -10,6 +10,9 @@ use Rattle.board.specs.Held.{no_machine}
 use Rattle.pool.proofs.Pools.{rank_found, rank_passed, rank_counted, rank_ended}
 use Rattle.pool.proofs.pooled_at_rank.Goals.{then-is_pooled+else-left-eq0, else-is_pooled}
 use Rattle.pool.proofs.pooled_at_rank.Goals as goal
+
+least : (n k : ℕ) → (k < n → ⊥) → n ≤ k
+least n k f = omega arith
 
 pub loop-i-init : goal.loop-i-init
 unfolding pool_of
@@ -46,10 +49,6 @@ loop-i-preserved c =
     )
 
 pub returns : goal.returns
-returns c = (
-  omega arith,
-  λ b h l.
-      let a = c.loop-i in
-      let t = a.invariant.2 b h l in
-      absurd (rank_ended is_pooled b.machines a.i a.left _ t.1 (omega (arith, t.0, c.loop-i-test.false))),
-)
+returns c = λ b h.
+    let a = c.loop-i in
+    least (length (pool_of b)) c.args.k (λ l. let t = a.invariant.2 b h l in rank_ended is_pooled b.machines a.i a.left _ t.1 (omega (arith, t.0, c.loop-i-test.false)))

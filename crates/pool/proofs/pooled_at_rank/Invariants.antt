@@ -1,4 +1,4 @@
-use Prim.Native.Nat.{◌-◌, ◌≤◌, ◌<◌}
+use Prim.Native.Nat.{◌≤◌, ◌<◌}
 use mathlib.Core.Path.{◌≡◌}
 use lib.ListN.{length, get_or}
 use Rattle.types.specs.Places.{is_pooled}
@@ -11,6 +11,3 @@ use Rattle.pool.proofs.pooled_at_rank.Given as goal
 abbrev pub invariant-loop-i : goal.invariant-loop-i
 invariant-loop-i l = (l.i ≤ l.n) × (l.n ≤ most_machines)
     × ((b : Board) → Holds l.ws b → l.k < length (pool_of b) → (l.n ≡ length b.machines) × Ranked is_pooled b.machines l.i l.left (get_or (pool_of b) l.k 0))
-
-abbrev pub decreases-loop-i : goal.decreases-loop-i
-decreases-loop-i l = l.n - l.i

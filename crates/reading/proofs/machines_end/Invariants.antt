@@ -8,8 +8,5 @@ use Rattle.unpacking.specs.AsWords.{AsWords}
 use Rattle.reading.proofs.Streams.{Left}
 use Rattle.reading.proofs.machines_end.Given as goal
 
-abbrev pub invariant-loop-n : goal.invariant-loop-n
-invariant-loop-n l = (l.a + l.n * machine_width ≤ length l.bytes / 8) × ((ws : List ℕ) → AsWords l.bytes ws → Left Machines most_machines ws l.at l.n l.a)
-
-abbrev pub decreases-loop-n : goal.decreases-loop-n
-decreases-loop-n l = l.n
+abbrev pub invariant-loop-after : goal.invariant-loop-after
+invariant-loop-after l = (l.next + l.after * machine_width ≤ length l.bytes / 8) × ((ws : List ℕ) → AsWords l.bytes ws → Left Machines most_machines ws l.at l.after l.next)

@@ -1,11 +1,10 @@
 use Rattle.recasting.proofs.Families.{none_closed, one_closed}
 use Rattle.recasting.proofs.close_committee.Goals as goal
 
-pub returns-then-j-ge-MOST_COMMITTEES : goal.returns-then-j-ge-MOST_COMMITTEES
-returns-then-j-ge-MOST_COMMITTEES c = λ b h ok. none_closed b ok _ _ _ (c.committee_row-j.ensures b h ok) c.if-j-ge-MOST_COMMITTEES.true h
+pub returns-in_default : goal.returns-in_default
+returns-in_default c = λ b h ok. none_closed b ok _ _ (c.in_default.ensures.found b h ok) h
 
 pub returns : goal.returns
 returns c = λ b h ok.
-    let f = c.committee_row-j.ensures b h ok in
-    let l = c.if-j-ge-MOST_COMMITTEES.false in
-    one_closed b ok _ _ _ f l (c.close.ensures b h (f.inside l))
+    let f = c.in-Some.ensures.found b h ok in
+    one_closed b ok _ _ _ f.0 f.1 (c.close.ensures b h f.0)

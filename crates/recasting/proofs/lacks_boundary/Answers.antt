@@ -1,10 +1,13 @@
+use mathlib.Core.Path.{◌∙◌}
 use native.Mathlib.Omega.{arith}
+use Rattle.board.specs.Held.{no_boundary}
 use Rattle.board.proofs.Keyed.{bounds_rise}
-use Rattle.recasting.proofs.Sizes.{found_stands, missing_stands}
+use Rattle.rows.proofs.Asked.{finds_stands}
+use Rattle.recasting.proofs.Sizes.{bit_most, lack_told}
 use Rattle.recasting.proofs.lacks_boundary.Goals as goal
 
-pub returns-then-bound_row-ge-MOST_BOUNDS : goal.returns-then-bound_row-ge-MOST_BOUNDS
-returns-then-bound_row-ge-MOST_BOUNDS c = (omega arith, λ b h ok. rw (missing_stands (c.bound_row.ensures b h ok) c.if-bound_row-ge-MOST_BOUNDS.true))
-
 pub returns : goal.returns
-returns c = (omega arith, λ b h ok. rw (found_stands (c.bound_row.ensures b h ok) (bounds_rise b ok) c.if-bound_row-ge-MOST_BOUNDS.false))
+returns c = (
+  omega (arith, c.from.ensures, bit_most c.is_none.result),
+  λ b h ok. c.from.ensures ∙ lack_told _ _ _ _ c.is_none.ensures (finds_stands _ no_boundary _ _ (bounds_rise b ok) (c.find_bound.ensures.found b h ok)),
+)

@@ -1,10 +1,13 @@
+use mathlib.Core.Path.{◌∙◌}
 use native.Mathlib.Omega.{arith}
+use Rattle.board.specs.Held.{no_committee}
 use Rattle.board.proofs.Keyed.{committees_rise}
-use Rattle.recasting.proofs.Sizes.{found_stands, missing_stands}
+use Rattle.rows.proofs.Asked.{finds_stands}
+use Rattle.recasting.proofs.Sizes.{bit_most, lack_told}
 use Rattle.recasting.proofs.lacks_committee.Goals as goal
 
-pub returns-then-committee_row-ge-MOST_COMMITTEES : goal.returns-then-committee_row-ge-MOST_COMMITTEES
-returns-then-committee_row-ge-MOST_COMMITTEES c = (omega arith, λ b h ok. rw (missing_stands (c.committee_row.ensures b h ok) c.if-committee_row-ge-MOST_COMMITTEES.true))
-
 pub returns : goal.returns
-returns c = (omega arith, λ b h ok. rw (found_stands (c.committee_row.ensures b h ok) (committees_rise b ok) c.if-committee_row-ge-MOST_COMMITTEES.false))
+returns c = (
+  omega (arith, c.from.ensures, bit_most c.is_none.result),
+  λ b h ok. c.from.ensures ∙ lack_told _ _ _ _ c.is_none.ensures (finds_stands _ no_committee _ _ (committees_rise b ok) (c.find_committee.ensures.found b h ok)),
+)

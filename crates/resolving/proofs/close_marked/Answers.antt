@@ -1,10 +1,8 @@
 use Prim.Native.Nat.{◌<◌}
 use mathlib.Core.Path.{refl, ◌∙◌}
 use native.Mathlib.Omega.{arith}
-use lib.ListN.{get_or, length}
-use Rattle.rules.specs.Places.{is_resolved}
-use Rattle.board.specs.Held.{no_rotation}
-use Rattle.resolving.proofs.Walks.{mark_is, walk_begins, walk_turns, walk_ends}
+use lib.ListN.{length}
+use Rattle.resolving.proofs.Walks.{walk_begins, walk_turns, walk_ends}
 use Rattle.resolving.proofs.close_marked.Goals as goal
 
 pub loop-i-init : goal.loop-i-init
@@ -22,7 +20,7 @@ loop-i-preserved c = let a = c.loop-i in (
   λ b h ok m.
       let t = a.invariant.4 b h ok m in
       let l : a.i < length b.rotations = omega (arith, t.0) in
-      (t.0, walk_turns b _ _ _ t.1 l _ (mark_is _ (is_resolved b (get_or b.rotations a.i no_rotation)) (m a.i l)) _ _ c.turn_at-row.ensures.1),
+      (t.0, walk_turns b _ _ _ t.1 l _ (m a.i l) _ _ c.turn_at-row.ensures.1),
 )
 
 pub returns : goal.returns

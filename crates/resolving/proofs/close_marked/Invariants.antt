@@ -1,4 +1,4 @@
-use Prim.Native.Nat.{◌-◌, ◌≤◌}
+use Prim.Native.Nat.{◌≤◌}
 use mathlib.Core.Path.{◌≡◌}
 use mathlib.Core.Bool.{true}
 use lib.ListN.{length}
@@ -12,6 +12,3 @@ use Rattle.resolving.proofs.close_marked.Given as goal
 abbrev pub invariant-loop-i : goal.invariant-loop-i
 invariant-loop-i l = (l.i ≤ l.n) × (l.n ≤ most_rotations) × (l.row ≤ l.i) × (length l.board ≡ length l.initial.board)
     × ((b : Board) → Holds l.initial.board b → well_formed b ≡ true → Marked b l.marks → (l.n ≡ length b.rotations) × Walked b l.i l.row l.board)
-
-abbrev pub decreases-loop-i : goal.decreases-loop-i
-decreases-loop-i l = l.n - l.i

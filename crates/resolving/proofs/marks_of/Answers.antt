@@ -1,12 +1,10 @@
 use Prim.Native.Nat.{◌<◌}
-use mathlib.Core.Path.{refl, ap, ◌∙◌}
-use mathlib.Core.Bool.{true}
+use mathlib.Core.Path.{refl, ◌∙◌}
+use mathlib.Core.Bool.{false}
 use native.Mathlib.Omega.{arith}
 use borrow.Author.Count.{below_more}
 use lib.ListN.{length-set, length}
 use lib.Seq.{get_or-set_same, get_or-set_other}
-use Rattle.rules.specs.Lists.{bit_of}
-use Rattle.rules.specs.Places.{is_resolved}
 use Rattle.resolving.proofs.marks_of.Goals as goal
 
 pub loop-i-init : goal.loop-i-init
@@ -21,8 +19,8 @@ loop-i-preserved c = let a = c.loop-i in (
       let t = a.invariant.3 b h ok in
       let l : a.i < length b.rotations = omega (arith, t.0, c.loop-i-test.true) in (
         t.0,
-        below_more _ _ (λ j z. get_or-set_other a.marks a.i j c.bit.result 0 (λ e. omega arith) ∙ t.1 j z)
-            (get_or-set_same a.marks a.i c.bit.result 0 (omega (arith, a.invariant.2)) ∙ c.bit.ensures ∙ ap bit_of (c.is_resolved.ensures b h ok l)),
+        below_more _ _ (λ j z. get_or-set_other a.marks a.i j c.is_resolved.result false (λ e. omega arith) ∙ t.1 j z)
+            (get_or-set_same a.marks a.i c.is_resolved.result false (omega (arith, a.invariant.2)) ∙ c.is_resolved.ensures b h ok l),
       ),
 )
 

@@ -5,4 +5,4 @@ use Rattle.row_lines.proofs.put_ends.Goals as goal
 
 pub returns : goal.returns
 unfolding bytes ends_text
-returns c = puts_both c.put_column_or-a.ensures c.put_column_or.ensures
+returns c = puts_both c.put_epoch_or-a.ensures c.put_epoch_or.ensures

@@ -5,8 +5,8 @@ use Rattle.row_tests.proofs.row_ok.Goals as goal
 pub machine_ok-requires : goal.machine_ok-requires
 machine_ok-requires c = c.requires ∙ ap width_of c.in-Machines.is
 
-pub lone_committee_ok-requires : goal.lone_committee_ok-requires
-lone_committee_ok-requires c = c.requires ∙ ap width_of c.in-Committees.is
+pub committee_ok-requires : goal.committee_ok-requires
+committee_ok-requires c = c.requires ∙ ap width_of c.in-Committees.is
 
 pub boundary_ok-requires : goal.boundary_ok-requires
 boundary_ok-requires c = c.requires ∙ ap width_of c.in-Boundaries.is

@@ -4,29 +4,29 @@ use native.Mathlib.Omega.{arith}
 use Rattle.schedule_merges.proofs.Merges.{run_begins, run_on, run_stops, run_ends}
 use Rattle.schedule_merges.proofs.in_turn.Goals as goal
 
-pub loop-i-init : goal.loop-i-init
-loop-i-init c = (omega arith, omega arith, refl, λ b h ok. run_begins _ b _ h ok)
+pub loop-target-init : goal.loop-target-init
+loop-target-init c = (omega arith, omega arith, refl, λ b h ok. run_begins _ b _ h ok)
 
-pub try_schedule_merge-turned-requires : goal.try_schedule_merge-turned-requires
-try_schedule_merge-turned-requires c = c.loop-i.invariant.2 ∙ c.requires.0
+pub try_schedule_merge-requires : goal.try_schedule_merge-requires
+try_schedule_merge-requires c = c.loop-target.invariant.2 ∙ c.requires.0
 
 pub overflow_add-handled : goal.overflow_add-handled
-overflow_add-handled c = let e = c.in-Done.is in
-    let t = rw e at c.try_schedule_merge-turned.ensures.0 in
-    omega (arith, t.0, c.loop-i.invariant.1, c.loop-i.invariant.0, c.requires.1)
+overflow_add-handled c = let e = c.in-Ok.is in
+    let t = rw e at c.try_schedule_merge.ensures.0 in
+    omega (arith, t.0, c.loop-target.invariant.1, c.loop-target.invariant.0, c.requires.1)
 
-pub returns-in-Refused : goal.returns-in-Refused
-returns-in-Refused c = λ b h ok. let a = c.loop-i in run_stops _ b _ _ _ _ (a.invariant.3 b h ok) c.loop-i-test.true _ c.try_schedule_merge-turned.ensures.1 _ c.in-Refused.is
+pub returns-in-Err : goal.returns-in-Err
+returns-in-Err c = λ b h ok. let a = c.loop-target in run_stops _ b _ _ _ _ (a.invariant.3 b h ok) c.loop-target-test.true _ c.try_schedule_merge.ensures.1 _ c.in-Err.is
 
-pub loop-i-preserved : goal.loop-i-preserved
-loop-i-preserved c = let a = c.loop-i in
-    let e = c.in-Done.is in
-    let t = rw e at c.try_schedule_merge-turned.ensures.0 in (
+pub loop-target-preserved : goal.loop-target-preserved
+loop-target-preserved c = let a = c.loop-target in
+    let e = c.in-Ok.is in
+    let t = rw e at c.try_schedule_merge.ensures.0 in (
       omega arith,
       omega (arith, t.0, a.invariant.1),
-      c.try_schedule_merge-turned.auto.board ∙ a.invariant.2,
-      λ b h ok. run_on _ b _ _ _ _ (a.invariant.3 b h ok) c.loop-i-test.true _ c.try_schedule_merge-turned.ensures.1 _ _ e,
+      c.try_schedule_merge.auto.board ∙ a.invariant.2,
+      λ b h ok. run_on _ b _ _ _ _ (a.invariant.3 b h ok) c.loop-target-test.true _ c.try_schedule_merge.ensures.1 _ e,
     )
 
 pub returns : goal.returns
-returns c = λ b h ok. let a = c.loop-i in rw c.done.ensures (run_ends _ b _ _ _ (a.invariant.3 b h ok) c.loop-i-test.false)
+returns c = λ b h ok. let a = c.loop-target in rw c.done.ensures (run_ends _ b _ _ _ (a.invariant.3 b h ok) c.loop-target-test.false)

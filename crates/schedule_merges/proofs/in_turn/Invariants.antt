@@ -8,9 +8,6 @@ use Rattle.board.specs.Held.{Holds}
 use Rattle.schedule_merges.proofs.Merges.{Run}
 use Rattle.schedule_merges.proofs.in_turn.Given as goal
 
-abbrev pub invariant-loop-i : goal.invariant-loop-i
-invariant-loop-i l = (l.i ≤ length l.targets) × (l.handled ≤ l.i) × (length l.board ≡ length l.initial.board)
-    × ((b : Board) → Holds l.initial.board b → well_formed b ≡ true → Run l.targets b l.i l.handled l.board)
-
-abbrev pub decreases-loop-i : goal.decreases-loop-i
-decreases-loop-i l = length l.targets - l.i
+abbrev pub invariant-loop-target : goal.invariant-loop-target
+invariant-loop-target l = (l.target-index ≤ length l.targets) × (l.handled ≤ l.target-index) × (length l.board ≡ length l.initial.board)
+    × ((b : Board) → Holds l.initial.board b → well_formed b ≡ true → Run l.targets b l.target-index l.handled l.board)

@@ -4,31 +4,29 @@ use Rattle.drains.specs.declared.Plan.TheVariants.{Stamp, Wait, Schedule, Unboun
 use Rattle.schedule_splits.proofs.Turns.{row_kept, abort_well, schedule_kept, pass_shut, pass_open}
 use Rattle.schedule_splits.proofs.schedule_halves.Goals as goal
 
-pub returns-then-i-ge-MOST_RESHAPES : goal.returns-then-i-ge-MOST_RESHAPES
-returns-then-i-ge-MOST_RESHAPES c = (
+pub returns-in_default : goal.returns-in_default
+returns-in_default c = (
   (omega arith, omega arith),
   λ b h ok stay draws m.
-      let g = c.gated_row-i.ensures.1 b h ok in
-      record { board = _; read = m; turn = pass_shut _ b _ stay _ (g.shut c.if-i-ge-MOST_RESHAPES.true); holds = c.abort_rotations.ensures b h ok },
+      record { board = _; read = m; turn = pass_shut _ b _ stay _ (c.in_default.ensures.gate b h ok); holds = c.abort_rotations.ensures b h ok },
 )
 
-pub plan_at-plan-requires : goal.plan_at-plan-requires
-plan_at-plan-requires c = (c.requires.0, c.if-i-ge-MOST_RESHAPES.false, c.gated_row-i.ensures.0 c.if-i-ge-MOST_RESHAPES.false)
+pub plan_at-requires : goal.plan_at-requires
+plan_at-requires c = (c.requires.0, c.in-Some.ensures.room.0, c.in-Some.ensures.room.1)
 
 pub schedule-requires : goal.schedule-requires
-schedule-requires c = (c.abort_rotations-in-Schedule.auto.board ∙ c.requires.0, c.if-i-ge-MOST_RESHAPES.false, c.gated_row-i.ensures.0 c.if-i-ge-MOST_RESHAPES.false, c.requires.1)
+schedule-requires c = (c.abort_rotations-in-Schedule.auto.board ∙ c.requires.0, c.in-Some.ensures.room.0, c.in-Some.ensures.room.1, c.requires.1)
 
 pub returns-in-Stamp : goal.returns-in-Stamp
 returns-in-Stamp c = (
   (omega arith, omega arith),
   λ b h ok stay draws m.
-      let g = c.gated_row-i.ensures.1 b h ok in
-      let l = c.if-i-ge-MOST_RESHAPES.false in
-      let r = g.row l in
+      let g = c.in-Some.ensures.gate b h ok in
+      let r = g.row in
       record {
         board = _;
         read = m;
-        turn = pass_open _ b _ stay _ ok _ r (g.opens l) Stamp (sym c.in-Stamp.is ∙ c.plan_at-plan.ensures b h ok r.inside);
+        turn = pass_open _ b _ stay _ ok _ r g.opens Stamp (sym c.in-Stamp.is ∙ c.plan_at.ensures b h ok r.inside);
         holds = c.stamp.ensures _ (c.abort_rotations-in-Stamp.ensures b h ok) (abort_well _ b ok) _ (row_kept _ b _ r);
       },
 )
@@ -37,13 +35,12 @@ pub returns-in-Wait : goal.returns-in-Wait
 returns-in-Wait c = (
   (omega arith, omega arith),
   λ b h ok stay draws m.
-      let g = c.gated_row-i.ensures.1 b h ok in
-      let l = c.if-i-ge-MOST_RESHAPES.false in
-      let r = g.row l in
+      let g = c.in-Some.ensures.gate b h ok in
+      let r = g.row in
       record {
         board = _;
         read = m;
-        turn = pass_open _ b _ stay _ ok _ r (g.opens l) Wait (sym c.in-Wait.is ∙ c.plan_at-plan.ensures b h ok r.inside);
+        turn = pass_open _ b _ stay _ ok _ r g.opens Wait (sym c.in-Wait.is ∙ c.plan_at.ensures b h ok r.inside);
         holds = c.abort_rotations-in-Wait.ensures b h ok;
       },
 )
@@ -52,13 +49,12 @@ pub returns-in-Schedule : goal.returns-in-Schedule
 returns-in-Schedule c = (
   (omega arith, omega arith),
   λ b h ok stay draws m.
-      let g = c.gated_row-i.ensures.1 b h ok in
-      let l = c.if-i-ge-MOST_RESHAPES.false in
-      let r = g.row l in
+      let g = c.in-Some.ensures.gate b h ok in
+      let r = g.row in
       record {
         board = _;
         read = m;
-        turn = pass_open _ b _ stay _ ok _ r (g.opens l) Schedule (sym c.in-Schedule.is ∙ c.plan_at-plan.ensures b h ok r.inside);
+        turn = pass_open _ b _ stay _ ok _ r g.opens Schedule (sym c.in-Schedule.is ∙ c.plan_at.ensures b h ok r.inside);
         holds = schedule_kept _ b _ _ _ _ (c.schedule.ensures _ (c.abort_rotations-in-Schedule.ensures b h ok) (abort_well _ b ok) (row_kept _ b _ r));
       },
 )
@@ -67,8 +63,7 @@ pub returns-in-Unbounded : goal.returns-in-Unbounded
 returns-in-Unbounded c = (
   tt,
   λ b h ok stay draws m.
-      let g = c.gated_row-i.ensures.1 b h ok in
-      let l = c.if-i-ge-MOST_RESHAPES.false in
-      let r = g.row l in
-      (pass_open _ b _ stay _ ok _ r (g.opens l) Unbounded (sym c.in-Unbounded.is ∙ c.plan_at-plan.ensures b h ok r.inside), h),
+      let g = c.in-Some.ensures.gate b h ok in
+      let r = g.row in
+      (pass_open _ b _ stay _ ok _ r g.opens Unbounded (sym c.in-Unbounded.is ∙ c.plan_at.ensures b h ok r.inside), h),
 )

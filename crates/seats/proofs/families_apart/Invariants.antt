@@ -10,6 +10,3 @@ use Rattle.seats.proofs.families_apart.Given as goal
 abbrev pub invariant-loop-i : goal.invariant-loop-i
 invariant-loop-i l = (l.i ≤ l.n) × (l.n ≤ most_reshapes)
     × ((b : Board) → Holds l.board b → (l.n ≡ length b.reshapes) × (families_apart (keys_of b.reshapes) ≡ families_apart (keys_of (drop l.i b.reshapes))))
-
-abbrev pub decreases-loop-i : goal.decreases-loop-i
-decreases-loop-i l = l.n - l.i

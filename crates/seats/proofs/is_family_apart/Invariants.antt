@@ -15,6 +15,3 @@ invariant-loop-k l = (l.n ≤ most_reshapes)
     × ((b : Board) → Holds l.board b → l.i < length b.reshapes
     → (l.n ≡ length b.reshapes)
     × (is_family_apart (get_or b.reshapes l.i no_reshape) (drop (l.i + 1) b.reshapes) ≡ every (λ u. not (overlaps (get_or b.reshapes l.i no_reshape).key u)) (keys_of (drop l.k b.reshapes))))
-
-abbrev pub decreases-loop-k : goal.decreases-loop-k
-decreases-loop-k l = l.n - l.k

@@ -13,6 +13,3 @@ use Rattle.seats.proofs.reshapes_stand.Given as goal
 abbrev pub invariant-loop-i : goal.invariant-loop-i
 invariant-loop-i l = (l.i ≤ l.n) × (l.n ≤ most_reshapes)
     × ((b : Board) → Holds l.board b → well_formed b ≡ true → (l.n ≡ length b.reshapes) × (reshapes_stand b ≡ every (reshape_stands b) (drop l.i b.reshapes)))
-
-abbrev pub decreases-loop-i : goal.decreases-loop-i
-decreases-loop-i l = l.n - l.i

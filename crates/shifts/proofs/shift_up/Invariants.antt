@@ -1,4 +1,4 @@
-use Prim.Native.Nat.{◌+◌, ◌-◌, ◌≤◌}
+use Prim.Native.Nat.{◌+◌, ◌≤◌}
 use mathlib.Core.Path.{◌≡◌}
 use lib.ListN.{length}
 use Rattle.shifts.specs.Moved.{moved_up}
@@ -6,6 +6,3 @@ use Rattle.shifts.proofs.shift_up.Given as goal
 
 abbrev pub invariant-loop-k : goal.invariant-loop-k
 invariant-loop-k l = (l.from ≤ l.k) × (l.k ≤ l.initial.k) × (l.initial.k + l.by ≤ length l.initial.t) × (length l.t ≡ length l.initial.t) × (l.t ≡ moved_up l.initial.t l.k l.initial.k l.by)
-
-abbrev pub decreases-loop-k : goal.decreases-loop-k
-decreases-loop-k l = l.k - l.from

@@ -6,7 +6,7 @@ use lib.Seq.{length-take-le}
 use borrow.Author.Tests.{eq-eqb, ne_eqb}
 use Rattle.bytes_words.proofs.Digits.{part_below}
 use Rattle.reading.proofs.Bytes.{bytes_as}
-use Rattle.stops.specs.declared.Reading.TheVariants.{Stopped}
+use Rattle.std.specs.Prelude.{Err}
 use Rattle.stops.specs.Stop.{whole_words, reading_of}
 use Rattle.stops.proofs.Tells.{all_whole, some_left}
 use Rattle.stops.proofs.read_through.Goals as goal
@@ -31,4 +31,4 @@ returns c =
     let bs = c.args.bytes.now in
     let l = length-take-le (length bs / 8 * 8) bs (omega arith) in
     let h = bytes_as (take (length bs / 8 * 8) bs) (omega arith) (part_below (length bs / 8 * 8) bs (λ i. omega (arith, c.shared_slice_known-1.given i))) in
-    rw (ne_eqb (length bs % 8) 0 (λ e. omega arith), ← c.words-r.ensures _ h) (ap Stopped c.place.ensures ∙ sym (some_left _))
+    rw (ne_eqb (length bs % 8) 0 (λ e. omega arith), ← c.words-r.ensures _ h) (ap Err c.place.ensures ∙ sym (some_left _))

@@ -25,13 +25,13 @@ loop-m-init c = (
 )
 
 pub overflow_add-k : goal.overflow_add-k
-overflow_add-k c = omega (arith, c.bit.ensures, bit_most (not c.has_seat-seated.result))
+overflow_add-k c = omega (arith, c.from-k.ensures, bit_most (not c.has_seat.result))
 
 pub loop-m-preserved : goal.loop-m-preserved
 loop-m-preserved c =
     let a = c.loop-m in
     let p = c.args in (
-      omega (arith, c.bit.ensures, bit_most (not c.has_seat-seated.result)),
+      omega (arith, c.from-k.ensures, bit_most (not c.has_seat.result)),
       omega arith,
       a.invariant.2,
       c.put_member.auto.board ∙ a.invariant.3,
@@ -40,8 +40,8 @@ loop-m-preserved c =
             t.0,
             λ r rise.
                 one_tried (unseated p.i b) b _ l _ _ _ (t.1 r rise) _ (omega (arith, t.0, c.loop-m-test.true)) (omega arith) c.member_at-id.result.0
-                c.member_at-id.ensures c.put_member.ensures c.bit.result
-                (λ d g same. c.bit.ensures ∙ ap (λ (y : Bool). bit_of (not y)) (c.has_seat-seated.ensures d g (rw same r) (rw same rise)
+                c.member_at-id.ensures c.put_member.ensures c.from-k.result
+                (λ d g same. c.from-k.ensures ∙ ap (λ (y : Bool). bit_of (not y)) (c.has_seat.ensures d g (rw same r) (rw same rise)
                 ∙ ap (λ (u : Table Reshape). stands c.member_at-id.result.0 (get_or u p.i no_reshape).val.seats) same)),
           ),
     )

@@ -1,4 +1,4 @@
-use Prim.Native.Nat.{ℕ, ◌-◌, ◌≤◌, ◌<◌}
+use Prim.Native.Nat.{ℕ, ◌≤◌, ◌<◌}
 use mathlib.Core.Path.{◌≡◌}
 use mathlib.Core.Bool.{Bool, not}
 use lib.ListN.{length, get_or}
@@ -15,6 +15,3 @@ unseated i b x = not (stands x (get_or b.reshapes i no_reshape).val.seats)
 abbrev pub invariant-loop-m : goal.invariant-loop-m
 invariant-loop-m l = (l.k ≤ l.m) × (l.m ≤ l.n) × (l.n ≤ most_members) × (length l.board ≡ length l.initial.board)
     × ((b : Board) → Holds l.initial.board b → l.j < length b.committees → (l.n ≡ length (get_or b.committees l.j no_committee).val) × (l.i < length b.reshapes → Rising key_of (get_or b.reshapes l.i no_reshape).val.seats → Halfway (unseated l.i b) b l.j l.m l.k l.board))
-
-abbrev pub decreases-loop-m : goal.decreases-loop-m
-decreases-loop-m l = l.n - l.m

@@ -1,4 +1,4 @@
-use Prim.Native.Nat.{◌+◌, ◌-◌, ◌≤◌}
+use Prim.Native.Nat.{◌+◌, ◌≤◌}
 use mathlib.Core.Path.{◌≡◌}
 use lib.ListN.{length, drop}
 use Rattle.templates.specs.Lines.{first_line}
@@ -6,6 +6,3 @@ use Rattle.templates.proofs.line_end.Given as goal
 
 abbrev pub invariant-loop-e : goal.invariant-loop-e
 invariant-loop-e l = (l.e ≤ length l.text) × (l.e + length (first_line (drop l.e l.text)) ≡ l.at + length (first_line (drop l.at l.text)))
-
-abbrev pub decreases-loop-e : goal.decreases-loop-e
-decreases-loop-e l = length l.text - l.e

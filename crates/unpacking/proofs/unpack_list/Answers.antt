@@ -5,18 +5,17 @@ use native.Mathlib.Omega.{arith}
 use native.Mathlib.Nat.{mul-le-mul_right}
 use lib.Seq.{length-take-le}
 use lib.ListN.{length, replicate}
-use Rattle.unpacking.proofs.Bytes.{total}
 use Rattle.unpacking.proofs.Parts.{list_read, list_none, room_cleared}
 use Rattle.unpacking.proofs.unpack_list.Goals as goal
 
 pub returns-then-cap-n : goal.returns-then-cap-n
-returns-then-cap-n c = λ ws h. let a = c.args in list_none a.w a.cap c.word-n.result a.at c.past.result ws _ (c.word-n.ensures ws h) (omega arith) (omega (arith, total h, c.past.ensures))
+returns-then-cap-n c = λ ws h. let a = c.args in list_none a.w a.cap c.word-n.result a.at ws _ (c.word-n.ensures ws h) (omega arith)
 
-pub overflow_mul-e : goal.overflow_mul-e
-overflow_mul-e c = omega (arith, mul-le-mul_right c.args.w c.if-cap-n.false, c.requires)
+pub overflow_mul-end : goal.overflow_mul-end
+overflow_mul-end c = omega (arith, mul-le-mul_right c.args.w c.if-cap-n.false, c.requires)
 
-pub overflow_add-e : goal.overflow_add-e
-overflow_add-e c = omega (arith, mul-le-mul_right c.args.w c.if-cap-n.false, c.requires)
+pub overflow_add-end : goal.overflow_add-end
+overflow_add-end c = omega (arith, mul-le-mul_right c.args.w c.if-cap-n.false, c.requires)
 
 pub slice_bounds-wipe-start : goal.slice_bounds-wipe-start
 slice_bounds-wipe-start c = omega (arith, mul-le-mul_right c.args.w c.if-cap-n.false, c.requires)

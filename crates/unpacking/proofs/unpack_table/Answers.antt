@@ -1,28 +1,24 @@
 use mathlib.Core.Path.{refl}
 use native.Mathlib.Omega.{arith}
-use native.Mathlib.Nat.{mul-le-mul_right}
-use Rattle.unpacking.proofs.Sections.{table_many, table_read}
+use Rattle.unpacking.proofs.Sections.{count_none, table_many, table_none, table_read}
 use Rattle.unpacking.proofs.unpack_table.Goals as goal
+
+pub returns-in_err-rows : goal.returns-in_err-rows
+returns-in_err-rows c = λ ws h. let a = c.args in rw c.from_residual.ensures (count_none a.k a.cap a.at ws a.out.now _ _ (omega (arith, c.requires.1)) (c.in_err-rows.ensures ws h))
 
 pub returns-then-cap-count : goal.returns-then-cap-count
 returns-then-cap-count c = λ ws h.
     let a = c.args in
-    table_many a.k a.w a.cap _ a.at c.unpack_words-rows.result ws a.out.now _ c.requires.0 c.requires.1 c.out-1.given.0 refl (c.unpack_words-rows.ensures ws h) _ 0 c.if-cap-count.true
+    table_many a.k a.w a.cap _ a.at c.in_ok-rows.rows ws a.out.now _ c.requires.0 c.requires.1 c.unpack_words.auto.out refl (c.in_ok-rows.ensures ws h) _ c.if-cap-count.true
 
-pub overflow_mul-end : goal.overflow_mul-end
-overflow_mul-end c = omega (arith, mul-le-mul_right c.args.w c.if-cap-count.false, c.requires.1)
-
-pub overflow_add-end : goal.overflow_add-end
-overflow_add-end c = omega (arith, mul-le-mul_right c.args.w c.if-cap-count.false, c.requires.1)
-
-pub slice_bounds-unpack_rows-end : goal.slice_bounds-unpack_rows-end
-slice_bounds-unpack_rows-end c = omega (arith, mul-le-mul_right c.args.w c.if-cap-count.false, c.requires.1, c.out-1.given.1)
-
-pub slice_bounds-wipe-start : goal.slice_bounds-wipe-start
-slice_bounds-wipe-start c = omega (arith, mul-le-mul_right c.args.w c.if-cap-count.false, c.requires.1, c.out-1.given.1, c.out-2-1.given.1)
+pub returns-in_err-next : goal.returns-in_err-next
+returns-in_err-next c = λ ws h.
+    let a = c.args in
+    rw c.from_residual-in_err-next.ensures
+    (table_none a.k a.w a.cap _ a.at c.in_ok-rows.rows ws a.out.now _ c.requires.0 c.requires.1 c.unpack_words.auto.out refl (c.in_ok-rows.ensures ws h) _ _ (c.in_err-next.ensures ws h))
 
 pub returns : goal.returns
 returns c = λ ws h.
     let a = c.args in
-    table_read a.k a.w a.cap _ a.at c.unpack_words-rows.result ws a.out.now _ c.requires.0 c.requires.1 c.out-1.given.0 refl (c.unpack_words-rows.ensures ws h) c.unpack_rows-next.result _ _ c.if-cap-count.false
-    c.out-2-1.given.0 c.wipe.ensures (c.unpack_rows-next.ensures ws h)
+    table_read a.k a.w a.cap _ a.at c.in_ok-rows.rows ws a.out.now _ c.requires.0 c.requires.1 c.unpack_words.auto.out refl (c.in_ok-rows.ensures ws h) c.in_ok-next.next _ _ c.if-cap-count.false
+    c.unpack_rows.auto.out c.wipe.ensures (c.in_ok-next.ensures ws h)

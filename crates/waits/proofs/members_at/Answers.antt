@@ -1,6 +1,6 @@
 use Prim.Native.Nat.{◌≤◌, ◌<◌}
 use mathlib.Core.Path.{◌≡◌, ap, ◌∙◌}
-use mathlib.Core.Bool.{true, ◌&&◌}
+use mathlib.Core.Bool.{◌&&◌}
 use native.Mathlib.Omega.{arith}
 use lib.ListN.{length, get_or}
 use Rattle.types.specs.Places.{is_seated_on}
@@ -26,10 +26,10 @@ loop-k-init c = (
 )
 
 pub overflow_add-seated : goal.overflow_add-seated
-overflow_add-seated c = omega (arith, c.bit.ensures, bit_most c.is_seated_on-here.result)
+overflow_add-seated c = omega (arith, c.from-seated.ensures, bit_most c.is_seated_on-here.result)
 
 pub overflow_add-ready : goal.overflow_add-ready
-overflow_add-ready c = omega (arith, c.bit-in-loop-k.ensures, bit_most (c.is_seated_on-here.result && c.is_ready.result))
+overflow_add-ready c = omega (arith, c.from-ready.ensures, bit_most (c.is_seated_on-here.result && c.is_ready.result))
 
 pub loop-k-preserved : goal.loop-k-preserved
 loop-k-preserved c =
@@ -37,8 +37,8 @@ loop-k-preserved c =
     let p = c.args in (
       omega arith,
       a.invariant.1,
-      omega (arith, c.bit.ensures, bit_most c.is_seated_on-here.result),
-      omega (arith, c.bit-in-loop-k.ensures, bit_most (c.is_seated_on-here.result && c.is_ready.result)),
+      omega (arith, c.from-seated.ensures, bit_most c.is_seated_on-here.result),
+      omega (arith, c.from-ready.ensures, bit_most (c.is_seated_on-here.result && c.is_ready.result)),
       λ b h ok l.
           let t = a.invariant.4 b h ok l in
           let s = p.shard.0 in
@@ -46,8 +46,8 @@ loop-k-preserved c =
           let m : a.k < length ids = omega (arith, t.0, c.loop-k-test.true) in
           let place = c.place_of-p.ensures b h ok in
           let named = c.member_at.ensures b h l m in
-          let e : c.bit.result ≡ bit_of (says (is_seated_on s) b (get_or ids a.k 0)) = c.bit.ensures ∙ ap bit_of (seated_told b s _ _ _ place named _ c.is_seated_on-here.ensures) in
-          let f : c.bit-in-loop-k.result ≡ bit_of (says (is_ready_on s) b (get_or ids a.k 0)) = c.bit-in-loop-k.ensures ∙ ap bit_of (ready_told b s _ _ _ place named _ _ c.is_seated_on-here.ensures c.is_ready.ensures) in (
+          let e : c.from-seated.result ≡ bit_of (says (is_seated_on s) b (get_or ids a.k 0)) = c.from-seated.ensures ∙ ap bit_of (seated_told b s _ _ _ place named _ c.is_seated_on-here.ensures) in
+          let f : c.from-ready.result ≡ bit_of (says (is_ready_on s) b (get_or ids a.k 0)) = c.from-ready.ensures ∙ ap bit_of (ready_told b s _ _ _ place named _ _ c.is_seated_on-here.ensures c.is_ready.ensures) in (
             t.0,
             omega (arith, t.1, e, count_next (says (is_seated_on s) b) ids a.k 0 m),
             omega (arith, t.2, f, count_next (says (is_ready_on s) b) ids a.k 0 m),

@@ -1,4 +1,4 @@
-use Prim.Native.Nat.{◌+◌, ◌-◌, ◌≤◌, ◌<◌}
+use Prim.Native.Nat.{◌+◌, ◌≤◌, ◌<◌}
 use mathlib.Core.Path.{◌≡◌}
 use mathlib.Core.Bool.{true}
 use lib.ListN.{length, get_or, drop}
@@ -17,6 +17,3 @@ invariant-loop-k l = (l.k ≤ l.n) × (l.n ≤ most_members) × (l.seated ≤ l.
     → (l.n ≡ length (get_or b.committees l.j no_committee).val)
     × (l.seated + count (says (is_seated_on l.shard.0) b) (drop l.k (get_or b.committees l.j no_committee).val) ≡ count (says (is_seated_on l.shard.0) b) (get_or b.committees l.j no_committee).val)
     × (l.ready + count (says (is_ready_on l.shard.0) b) (drop l.k (get_or b.committees l.j no_committee).val) ≡ count (says (is_ready_on l.shard.0) b) (get_or b.committees l.j no_committee).val))
-
-abbrev pub decreases-loop-k : goal.decreases-loop-k
-decreases-loop-k l = l.n - l.k

@@ -1,9 +1,8 @@
 use Prim.Native.Nat.{◌<◌}
 use mathlib.Core.Path.{◌≡◌, ap, ◌∙◌}
 use native.Mathlib.Omega.{arith}
-use lib.Dec.{eqb}
 use lib.ListN.{length, get_or}
-use Rattle.rules.specs.Lists.{bit_of, count}
+use Rattle.rules.specs.Lists.{bit_of}
 use Rattle.rules.specs.Table.{Entry, count_where}
 use Rattle.rules.specs.Board.{Seat}
 use Rattle.board.specs.Held.{no_reshape, no_seat}
@@ -25,7 +24,7 @@ loop-k-init c = (
 )
 
 pub overflow_add-r : goal.overflow_add-r
-overflow_add-r c = omega (arith, c.bit.ensures, bit_most (eqb c.at-seat.result.child.0 c.args.child.0))
+overflow_add-r c = omega (arith, c.from-r.ensures, bit_most c.eq.result)
 
 pub loop-k-preserved : goal.loop-k-preserved
 loop-k-preserved c =
@@ -33,12 +32,12 @@ loop-k-preserved c =
     let p = c.args in (
       omega arith,
       a.invariant.1,
-      omega (arith, c.bit.ensures, bit_most (eqb c.at-seat.result.child.0 p.child.0)),
+      omega (arith, c.from-r.ensures, bit_most c.eq.result),
       λ b h l.
           let t = a.invariant.3 b h l in
           let seats = (get_or b.reshapes p.i no_reshape).val.seats in
           let m : a.k < length seats = omega (arith, t.0, c.loop-k-test.true) in
-          let e : c.bit.result ≡ bit_of (is_for p.child.0 (get_or seats a.k no_seat).val) = c.bit.ensures ∙ ap (λ (q : Entry Seat). bit_of (is_for p.child.0 q.val)) (c.at-seat.ensures b h l m) in
+          let e : c.from-r.result ≡ bit_of (is_for p.child.0 (get_or seats a.k no_seat).val) = c.from-r.ensures ∙ ap bit_of c.eq.ensures ∙ ap (λ (q : Entry Seat). bit_of (is_for p.child.0 q.val)) (c.at-seat.ensures b h l m) in
           (t.0, omega (arith, t.1, e, count_next (λ (e : Entry Seat). is_for p.child.0 e.val) seats a.k no_seat m)),
     )
 

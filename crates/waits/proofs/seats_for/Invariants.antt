@@ -1,4 +1,4 @@
-use Prim.Native.Nat.{◌+◌, ◌-◌, ◌≤◌, ◌<◌}
+use Prim.Native.Nat.{◌+◌, ◌≤◌, ◌<◌}
 use mathlib.Core.Path.{◌≡◌}
 use lib.ListN.{length, get_or, drop}
 use Rattle.rules.specs.Lists.{count}
@@ -13,6 +13,3 @@ invariant-loop-k l = (l.k ≤ l.n) × (l.n ≤ most_seats) × (l.r ≤ l.k)
     × ((b : Board) → Holds l.board b → l.i < length b.reshapes
     → (l.n ≡ length (get_or b.reshapes l.i no_reshape).val.seats)
     × (l.r + count (λ (e : Entry Seat). is_for l.child.0 e.val) (drop l.k (get_or b.reshapes l.i no_reshape).val.seats) ≡ count_where (is_for l.child.0) (get_or b.reshapes l.i no_reshape).val.seats))
-
-abbrev pub decreases-loop-k : goal.decreases-loop-k
-decreases-loop-k l = l.n - l.k

@@ -5,8 +5,8 @@ use Rattle.wellformed.proofs.Decided.{tells}
 use Rattle.wellformed.proofs.well_formed.Goals as goal
 
 pub returns-then-board-ne-BOARD_SIZE : goal.returns-then-board-ne-BOARD_SIZE
-returns-then-board-ne-BOARD_SIZE c = tells c.args.board.now _ (words_all c.args.board.now (λ i. omega (arith, c.shared_slice_known-1.given i))) (words_other _ c.if-board-ne-BOARD_SIZE.true)
+returns-then-board-ne-BOARD_SIZE c = tells c.args.board.now _ (words_all c.args.board.now (λ i. omega (arith, c.type_inv.board i))) (words_other _ c.if-board-ne-BOARD_SIZE.true)
 
 pub returns : goal.returns
-returns c = tells c.args.board.now _ (words_all c.args.board.now (λ i. omega (arith, c.shared_slice_known-1.given i)))
-    (words_are _ _ _ _ _ c.if-board-ne-BOARD_SIZE.false c.settings_ok.ensures c.machines_ok.ensures c.shards_ok.ensures c.underway_ok.ensures)
+returns c = tells c.args.board.now _ (words_all c.args.board.now (λ i. omega (arith, c.type_inv.board i)))
+    (words_are _ _ _ _ _ c.if-board-ne-BOARD_SIZE.false c.settings_ok.ensures c.table_ok.ensures.told c.shards_ok.ensures c.underway_ok.ensures)

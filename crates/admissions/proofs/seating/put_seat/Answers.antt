@@ -1,5 +1,6 @@
 use mathlib.Core.Path.{ap, sym, ◌∙◌}
 use native.Mathlib.Omega.{arith}
+use borrow.Author.Tests.{true-eqb, false-eqb}
 use Rattle.rules.specs.Table.{Entry}
 use Rattle.rules.specs.Board.{Seat}
 use Rattle.reshapes.proofs.SeatMoves.{place_within}
@@ -15,16 +16,16 @@ returns-then-count-k c = λ b h l r m.
     let n = c.count.ensures b h l in
     seat_at_end b _ _ _ r _ _ _ p (rw n at c.if-count-k.true) (c.open.ensures b h l m (place_within _ _ _ p))
 
-pub returns-then-own-id : goal.returns-then-own-id
-returns-then-own-id c = λ b h l r m.
+pub returns-then-eq : goal.returns-then-eq
+returns-then-eq c = λ b h l r m.
     let p = c.place_of-k.ensures.1 b h l r in
     let n = c.count.ensures b h l in
     let k = rw n at c.if-count-k.false in
-    seat_again b _ _ _ r _ _ _ p k (sym (ap (λ (e : Entry Seat). e.key) (c.at-there.ensures b h l k)) ∙ c.if-own-id.true) (c.put.ensures b h l k)
+    seat_again b _ _ _ r _ _ _ p k (sym (ap (λ (e : Entry Seat). e.key) (c.at.ensures b h l k)) ∙ true-eqb _ _ c.if-eq.ensures) (c.put.ensures b h l k)
 
 pub returns : goal.returns
 returns c = λ b h l r m.
     let p = c.place_of-k.ensures.1 b h l r in
     let n = c.count.ensures b h l in
     let k = rw n at c.if-count-k.false in
-    seat_between b _ _ _ r _ _ _ p (λ e. c.if-own-id.false (ap (λ (q : Entry Seat). q.key) (c.at-there.ensures b h l k) ∙ e)) (c.open-2.ensures b h l m (place_within _ _ _ p))
+    seat_between b _ _ _ r _ _ _ p (λ e. false-eqb _ _ c.if-eq.ensures (ap (λ (q : Entry Seat). q.key) (c.at.ensures b h l k) ∙ e)) (c.open-2.ensures b h l m (place_within _ _ _ p))

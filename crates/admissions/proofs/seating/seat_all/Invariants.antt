@@ -1,4 +1,4 @@
-use Prim.Native.Nat.{◌+◌, ◌-◌, ◌≤◌, ◌<◌}
+use Prim.Native.Nat.{◌+◌, ◌≤◌, ◌<◌}
 use mathlib.Core.Path.{◌≡◌}
 use lib.ListN.{length, get_or}
 use Rattle.rules.specs.Board.{Board, most_seats}
@@ -12,6 +12,3 @@ abbrev pub invariant-loop-k : goal.invariant-loop-k
 invariant-loop-k l = (l.k ≤ length l.ids) × (length l.board ≡ board_size)
     × ((b : Board) → Holds l.initial.board b → l.i < length b.reshapes → Rising key_of (get_or b.reshapes l.i no_reshape).val.seats → length (get_or b.reshapes l.i no_reshape).val.seats + length l.ids ≤ most_seats
     → Seating l.i l.child.0 l.ids b l.k l.board)
-
-abbrev pub decreases-loop-k : goal.decreases-loop-k
-decreases-loop-k l = length l.ids - l.k

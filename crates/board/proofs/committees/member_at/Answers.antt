@@ -1,5 +1,7 @@
-use Rattle.board.proofs.OfCommittees.{member_is}
+use Rattle.rules.specs.Board.{most_members}
+use Rattle.tables.proofs.Ids.{id_at}
+use Rattle.board.proofs.OfCommittees.{members_room}
 use Rattle.board.proofs.committees.member_at.Goals as goal
 
 pub returns : goal.returns
-returns c = λ b h l m. member_is _ b h c.args.j l c.args.i m
+returns c = λ b h l m. let j = c.args.j in id_at most_members _ _ (c.members.ensures.held b h l) c.args.i m (members_room _ b h j l)

@@ -1,3 +1,4 @@
+use mathlib.Core.Path.{◌∙◌}
 use lib.ListN.{set}
 use Rattle.rules.specs.Board.{most_machines}
 use Rattle.board.specs.Held.{no_machine}
@@ -10,5 +11,5 @@ pub returns : goal.returns
 returns c = λ b h l.
     let a = c.args in
     held_machines _ b h _ (set b.machines a.i (machine_entry a.m))
-    (row_back machines _ b h a.i no_machine l (machine_entry a.m) _ c.store.ensures)
+    (row_back machines _ b h a.i no_machine l (machine_entry a.m) _ (c.copy_from_slice.ensures.after ∙ c.row.ensures))
     (set_room most_machines b.machines a.i (machine_entry a.m) h.fits.machines)

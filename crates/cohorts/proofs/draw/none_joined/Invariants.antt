@@ -10,8 +10,5 @@ use Rattle.cohorts.proofs.draw.none_joined.Given as goal
 abbrev pub is_new : ℕ → Board → ℕ → Bool
 is_new j b x = not (has x (get_or b.committees j no_committee).val)
 
-abbrev pub invariant-loop-k : goal.invariant-loop-k
-invariant-loop-k l = (l.k ≤ length l.ids) × ((b : Board) → Holds l.board b → l.j < length b.committees → every (is_new l.j b) (drop l.k l.ids) ≡ every (is_new l.j b) l.ids)
-
-abbrev pub decreases-loop-k : goal.decreases-loop-k
-decreases-loop-k l = length l.ids - l.k
+abbrev pub invariant-loop-id : goal.invariant-loop-id
+invariant-loop-id l = (l.id-index ≤ length l.ids) × ((b : Board) → Holds l.board b → l.j < length b.committees → every (is_new l.j b) (drop l.id-index l.ids) ≡ every (is_new l.j b) l.ids)

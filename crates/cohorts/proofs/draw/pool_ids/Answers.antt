@@ -21,19 +21,19 @@ loop-i-init c = (
 )
 
 pub overflow_add-k : goal.overflow_add-k
-overflow_add-k c = omega (arith, c.bit.ensures, bit_most c.is_pooled.result)
+overflow_add-k c = omega (arith, c.from-k.ensures, bit_most c.is_pooled.result)
 
 pub loop-i-preserved : goal.loop-i-preserved
 loop-i-preserved c = let a = c.loop-i in (
   omega arith,
   a.invariant.1,
-  omega (arith, c.bit.ensures, bit_most c.is_pooled.result),
+  omega (arith, c.from-k.ensures, bit_most c.is_pooled.result),
   simp length-set a.invariant.3,
   λ b h.
       let t = a.invariant.4 b h in
       let l : a.i < length b.machines = omega (arith, t.0, c.loop-i-test.true) in
       let m = c.at-m.ensures b h l in
-      (t.0, gathered b a.i a.k _ _ a.out _ l (omega (arith, a.invariant.3, c.requires.1)) (c.is_pooled.ensures ∙ ap (λ (x : Machine). is_pooled x.place) m) (ap (λ (x : Machine). x.id.0) m) (ap (λ (x : ℕ). a.k + x) c.bit.ensures) t.1),
+      (t.0, gathered b a.i a.k _ _ a.out _ l (omega (arith, a.invariant.3, c.requires.1)) (c.is_pooled.ensures ∙ ap (λ (x : Machine). is_pooled x.place) m) (ap (λ (x : Machine). x.id.0) m) (ap (λ (x : ℕ). a.k + x) c.from-k.ensures) t.1),
 )
 
 pub returns : goal.returns

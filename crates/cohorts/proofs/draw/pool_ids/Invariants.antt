@@ -12,6 +12,3 @@ use Rattle.cohorts.proofs.draw.pool_ids.Given as goal
 abbrev pub invariant-loop-i : goal.invariant-loop-i
 invariant-loop-i l = (l.i ≤ l.n) × (l.n ≤ most_machines) × (l.k ≤ l.i) × (length l.out ≡ length l.initial.out)
     × ((b : Board) → Holds l.board b → (l.n ≡ length b.machines) × (take l.k l.out ++ keys_where is_pooled (drop l.i b.machines) ≡ pool_of b))
-
-abbrev pub decreases-loop-i : goal.decreases-loop-i
-decreases-loop-i l = l.n - l.i

@@ -16,6 +16,3 @@ abbrev pub invariant-loop-k : goal.invariant-loop-k
 invariant-loop-k l = (length l.board ≡ length l.initial.board)
     × ((b : Board) → Holds l.initial.board b → well_formed b ≡ true → l.i < length b.reshapes → (get_or b.reshapes l.i no_reshape).key ≡ l.target.0 → is_empty (seats_in_row l.i b) ≡ true
     → good_ids most_seats l.ids ≡ true → may_join l.target.0 l.ids b ≡ true → (l.half ≡ half_up (size_of b)) × Watched l.target.0 l.i l.ids b l.k l.board)
-
-abbrev pub decreases-loop-k : goal.decreases-loop-k
-decreases-loop-k l = length l.ids - l.k

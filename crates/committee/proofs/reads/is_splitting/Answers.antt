@@ -4,11 +4,10 @@ use Rattle.rows.proofs.Asked.{holds_none}
 use Rattle.committee.proofs.Asked.{splits_at}
 use Rattle.committee.proofs.reads.is_splitting.Goals as goal
 
-pub returns-then-i-ge-MOST_RESHAPES : goal.returns-then-i-ge-MOST_RESHAPES
-returns-then-i-ge-MOST_RESHAPES c = λ b h ok. sym (holds_none _ _ b.reshapes ((c.reshape_row-i.ensures b h ok).missing c.if-i-ge-MOST_RESHAPES.true))
+pub returns-in-None : goal.returns-in-None
+returns-in-None c = λ b h ok. sym (holds_none _ _ b.reshapes (c.in-None.ensures.found b h ok))
 
-pub returns : goal.returns
-returns c = λ b h ok.
-    let w = c.reshape_row-i.ensures b h ok in
-    let i = w.inside c.if-i-ge-MOST_RESHAPES.false in
-    ap not (c.is_merge.ensures b h i) ∙ splits_at b ok _ _ i (w.named c.if-i-ge-MOST_RESHAPES.false)
+pub returns-in-Some : goal.returns-in-Some
+returns-in-Some c = λ b h ok.
+    let w = c.in-Some.ensures.found b h ok in
+    ap not (c.is_merge.ensures b h w.0) ∙ splits_at b ok _ _ w.0 w.1

@@ -5,6 +5,5 @@ use Rattle.committee.proofs.rotate.open_at.Goals as goal
 
 pub returns : goal.returns
 returns c = λ b h ok l m f.
-    let k = c.requires.2 in
     let s = c.seat_drawn.ensures b h ok l m in
-    opened_at _ _ b _ f k _ _ _ _ (ap (λ (y : Machine). y.id.0) (c.at-m.ensures b h l)) (c.epoch-opened.ensures b h) (c.open.ensures _ s (rw (seat_rotations _ _ _ b) (f.free k)) (rw (seat_rotations _ _ _ b) (row_within _ _ b _ f k 0)))
+    opened_at _ _ b _ f _ _ _ _ (ap (λ (y : Machine). y.id.0) (c.at-m.ensures b h l)) (c.epoch-opened.ensures b h) (c.open.ensures _ s (rw (seat_rotations _ _ _ b) f.free) (rw (seat_rotations _ _ _ b) (row_within _ _ b _ f 0)))

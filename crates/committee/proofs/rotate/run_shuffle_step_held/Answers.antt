@@ -11,4 +11,4 @@ returns-then-not-may_rotate c = λ b h ok. not_now b ok _ _ _ _ _ (sym c.is_shar
 
 pub returns : goal.returns
 returns c = λ b h ok.
-    turned b ok _ _ _ _ _ (sym c.is_shard.ensures ∙ not-false _ c.if-not-is_shard.false-raw) (sym (c.may_rotate.ensures b h ok) ∙ not-false _ c.if-not-may_rotate.false-raw) c.rotate_turn-turned.result (rw c.start.ensures at (c.rotate_turn-turned.ensures b h ok)) c.told.ensures
+    turned b ok _ _ _ _ _ (sym c.is_shard.ensures ∙ not-false _ c.if-not-is_shard.false-raw) (sym (c.may_rotate.ensures b h ok) ∙ not-false _ c.if-not-may_rotate.false-raw) c.rotate_turn-turn.result (rw c.start.ensures at (c.rotate_turn-turn.ensures b h ok)) c.told.ensures

@@ -1,5 +1,5 @@
 use mathlib.Core.List.{[]}
-use Prim.Native.Nat.{◌-◌, ◌≤◌, ◌<◌}
+use Prim.Native.Nat.{◌≤◌, ◌<◌}
 use mathlib.Core.Path.{◌≡◌}
 use mathlib.Core.Option.{some}
 use mathlib.Core.Bool.{true}
@@ -16,6 +16,3 @@ abbrev pub invariant-loop-k : goal.invariant-loop-k
 invariant-loop-k l = (l.k ≤ l.n) × (l.n ≤ most_seats) × (length l.board ≡ length l.initial.board)
     × ((b : Board) → Holds l.initial.board b → well_formed b ≡ true → l.i < length b.reshapes → is_target l.target.0 ≡ true → at l.target.0 b.committees ≡ some []
     → (l.n ≡ length (reshape_in l.i b).seats) × Joined l.target.0 l.i b l.k l.board)
-
-abbrev pub decreases-loop-k : goal.decreases-loop-k
-decreases-loop-k l = l.n - l.k

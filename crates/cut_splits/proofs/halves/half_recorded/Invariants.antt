@@ -1,4 +1,4 @@
-use Prim.Native.Nat.{◌-◌, ◌≤◌, ◌<◌}
+use Prim.Native.Nat.{◌≤◌, ◌<◌}
 use mathlib.Core.Path.{◌≡◌}
 use mathlib.Core.Bool.{true}
 use lib.ListN.{length, drop}
@@ -8,13 +8,10 @@ use Rattle.rules.specs.WellFormed.{well_formed}
 use Rattle.board.specs.Held.{Holds}
 use Rattle.arriving.specs.Coming.{reshape_in}
 use Rattle.arriving.proofs.Lists.{known}
-use Rattle.cut_splits.specs.Settled.{half_of}
+use Rattle.reshapes.specs.Changes.{half_of}
 use Rattle.cut_splits.proofs.halves.half_recorded.Given as goal
 
 abbrev pub invariant-loop-k : goal.invariant-loop-k
 invariant-loop-k l = (l.k ≤ l.n) × (l.n ≤ most_half)
     × ((b : Board) → Holds l.board b → well_formed b ≡ true → l.i < length b.reshapes
-    → (l.n ≡ length (half_of l.right (reshape_in l.i b))) × (every (known b) (half_of l.right (reshape_in l.i b)) ≡ every (known b) (drop l.k (half_of l.right (reshape_in l.i b)))))
-
-abbrev pub decreases-loop-k : goal.decreases-loop-k
-decreases-loop-k l = l.n - l.k
+    → (l.n ≡ length (half_of l.side (reshape_in l.i b))) × (every (known b) (half_of l.side (reshape_in l.i b)) ≡ every (known b) (drop l.k (half_of l.side (reshape_in l.i b)))))

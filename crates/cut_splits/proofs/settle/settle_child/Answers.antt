@@ -1,13 +1,11 @@
 use Prim.Native.Nat.{◌+◌, ◌<◌}
 use mathlib.Core.Path.{refl, sym, ◌∙◌}
-use mathlib.Core.Bool.{true}
 use native.Mathlib.Omega.{arith}
 use lib.ListN.{length}
-use Rattle.rules.specs.Table.{at}
 use Rattle.rules.proofs.KeptBoard.{good_of_lem, of_good}
 use Rattle.arriving.specs.Coming.{reshape_in}
 use Rattle.arriving.proofs.Comes.{row_fit}
-use Rattle.cut_splits.specs.Settled.{half_of}
+use Rattle.reshapes.specs.Changes.{half_of}
 use Rattle.cut_splits.proofs.Children.{child_shard, child_apart, half_room, none_came, row_stays, half_stays, seats_stay, may_come, one_came, all_came}
 use Rattle.cut_splits.proofs.settle.settle_child.Goals as goal
 
@@ -23,7 +21,7 @@ loop-k-init c = (
       let m = c.count.ensures b h l in
       let n = c.rows_within.ensures.1 (rw m f.seats.room) ∙ m in
       let w = c.child_of-child.ensures in
-      (c.half_count-n.ensures.1 b h ok l, omega (arith, n), none_came _ _ a.right a.i b _ h (good_of_lem b ok) (rw w (child_shard a.right a.target.0 tg)) (rw w e) (half_room a.right f) f.seats.room),
+      (c.half_count-n.ensures.1 b h ok l, omega (arith, n), none_came _ _ a.side a.i b _ h (good_of_lem b ok) (rw w (child_shard a.side a.target.0 tg)) (rw w e) (half_room a.side f) f.seats.room),
 )
 
 pub settle_next-requires : goal.settle_next-requires
@@ -39,12 +37,12 @@ loop-k-preserved c = let a = c.loop-k in (
       let g = c.args in
       let t = a.invariant.4 b h ok l tg e in
       let u = t.2 in
-      let m : a.k < length (half_of g.right (reshape_in g.i b)) + length (reshape_in g.i b).seats = omega (arith, t.0, t.1, c.loop-k-test.true) in
-      let n = rw (sym c.child_of-child.ensures) at (child_apart g.right g.target.0 tg) in
-      let q = row_stays _ _ g.right g.i b _ _ u l in
-      let d = half_stays _ _ g.right g.i b _ _ u _ t.0 in
-      let r = seats_stay _ _ g.right g.i b _ _ u _ t.0 (omega (arith, m, t.0)) in
-      (t.0, t.1, one_came _ _ g.right g.i b _ _ u m n _ (c.settle_next.ensures u.board u.held (of_good u.way.good) q n d r (may_come _ _ g.right g.i b _ _ u m))),
+      let m : a.k < length (half_of g.side (reshape_in g.i b)) + length (reshape_in g.i b).seats = omega (arith, t.0, t.1, c.loop-k-test.true) in
+      let n = rw (sym c.child_of-child.ensures) at (child_apart g.side g.target.0 tg) in
+      let q = row_stays _ _ g.side g.i b _ _ u l in
+      let d = half_stays _ _ g.side g.i b _ _ u _ t.0 in
+      let r = seats_stay _ _ g.side g.i b _ _ u _ t.0 (omega (arith, m, t.0)) in
+      (t.0, t.1, one_came _ _ g.side g.i b _ _ u m n _ (c.settle_next.ensures u.board u.held (of_good u.way.good) q n d r (may_come _ _ g.side g.i b _ _ u m))),
 )
 
 pub shape_of-board : goal.shape_of-board
@@ -55,4 +53,4 @@ returns c = λ b h ok l tg e.
     let a = c.loop-k in
     let g = c.args in
     let t = a.invariant.4 b h ok l tg e in
-    rw c.child_of-child.ensures at (all_came _ _ g.right g.i b _ _ t.2 (omega (arith, t.0, t.1, c.loop-k-test.false)))
+    rw c.child_of-child.ensures at (all_came _ _ g.side g.i b _ _ t.2 (omega (arith, t.0, t.1, c.loop-k-test.false)))

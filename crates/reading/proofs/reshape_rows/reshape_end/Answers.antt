@@ -15,20 +15,20 @@ returns-then-total-at-2 c = λ ws h. head_short _ ws _ (omega (arith, total h))
 pub returns-then-not-reshape_head_ok : goal.returns-then-not-reshape_head_ok
 returns-then-not-reshape_head_ok c = λ ws h. head_bad _ ws _ _ (c.get_words.ensures.1 ∙ words_are h c.args.at 9 (omega (arith, total h))) (sym c.reshape_head_ok.ensures ∙ not-true _ c.if-not-reshape_head_ok.true-raw)
 
-pub returns-then-e-eq0 : goal.returns-then-e-eq0
-returns-then-e-eq0 c = λ ws h. no_lists _ ws _ _ (c.get_words.ensures.1 ∙ words_are h c.args.at 9 (omega (arith, total h))) _ (c.lists_end-e.ensures ws h) c.if-e-eq0.true
+pub returns-in_err-end : goal.returns-in_err-end
+returns-in_err-end c = λ ws h. rw c.from_residual.ensures (no_lists _ ws _ _ (c.get_words.ensures.1 ∙ words_are h c.args.at 9 (omega (arith, total h))) (c.in_err-end.ensures ws h))
 
 pub returns-then-last : goal.returns-then-last
 returns-then-last c = λ ws h.
-    reshape_told _ ws _ _ (c.get_words.ensures.1 ∙ words_are h c.args.at 9 (omega (arith, total h))) _ (c.lists_end-e.ensures ws h)
-    (omega arith) (omega (arith, total h)) (sym c.reshape_head_ok.ensures ∙ not-false _ c.if-not-reshape_head_ok.false-raw) (inl c.if-last.true)
+    reshape_told _ ws _ _ (c.get_words.ensures.1 ∙ words_are h c.args.at 9 (omega (arith, total h))) _ (c.in_ok-end.ensures ws h)
+    (omega (arith, total h)) (sym c.reshape_head_ok.ensures ∙ not-false _ c.if-not-reshape_head_ok.false-raw) (inl c.if-last.true)
 
 pub returns-then-not-first_rises_to : goal.returns-then-not-first_rises_to
 returns-then-not-first_rises_to c = λ ws h.
-    reshape_falls _ ws _ _ (c.get_words.ensures.1 ∙ words_are h c.args.at 9 (omega (arith, total h))) _ (c.lists_end-e.ensures ws h)
+    reshape_falls _ ws _ _ (c.get_words.ensures.1 ∙ words_are h c.args.at 9 (omega (arith, total h))) _ (c.in_ok-end.ensures ws h)
     c.if-last.false (sym (c.first_rises_to.ensures ws h) ∙ not-true _ c.if-not-first_rises_to.true-raw)
 
 pub returns : goal.returns
 returns c = λ ws h.
-    reshape_told _ ws _ _ (c.get_words.ensures.1 ∙ words_are h c.args.at 9 (omega (arith, total h))) _ (c.lists_end-e.ensures ws h)
-    (omega arith) (omega (arith, total h)) (sym c.reshape_head_ok.ensures ∙ not-false _ c.if-not-reshape_head_ok.false-raw) (inr (sym (c.first_rises_to.ensures ws h) ∙ not-false _ c.if-not-first_rises_to.false-raw))
+    reshape_told _ ws _ _ (c.get_words.ensures.1 ∙ words_are h c.args.at 9 (omega (arith, total h))) _ (c.in_ok-end.ensures ws h)
+    (omega (arith, total h)) (sym c.reshape_head_ok.ensures ∙ not-false _ c.if-not-reshape_head_ok.false-raw) (inr (sym (c.first_rises_to.ensures ws h) ∙ not-false _ c.if-not-first_rises_to.false-raw))

@@ -1,30 +1,27 @@
-use mathlib.Core.Path.{refl}
+use Prim.Native.Nat.{◌+◌, ◌-◌}
+use mathlib.Core.Path.{◌≡◌, refl}
 use native.Mathlib.Omega.{arith}
 use borrow.Author.Tests.{not-true, not-false}
 use Rattle.reading.proofs.Seats.{seats_start, seats_over, seats_fail, seats_more}
 use Rattle.reading.proofs.reshape_rows.seats_ok.Goals as goal
 
-pub loop-left-init : goal.loop-left-init
-loop-left-init c = record { place = refl; rest = λ ws h q. seats_start h c.args.target _ c.args.at c.requires q }
-
-pub first_seat_ok-requires : goal.first_seat_ok-requires
-first_seat_ok-requires c = (omega arith, omega (arith, c.loop-left.invariant.place))
+pub loop-after-init : goal.loop-after-init
+loop-after-init c = record { place = refl; rest = λ ws h q. seats_start h c.args.target _ c.args.at c.requires q }
 
 pub returns-then-not-first_seat_ok : goal.returns-then-not-first_seat_ok
 returns-then-not-first_seat_ok c = λ ws h q.
-    let i = c.loop-left.invariant in
-    seats_fail h _ _ _ c.requires _ _ i.place (i.rest ws h q) _ (omega arith) (c.first_seat_ok.ensures ws h) (not-true _ c.if-not-first_seat_ok.true-raw)
+    let i = c.loop-after.invariant in
+    let e : c.loop-after.after - 1 + 1 ≡ c.loop-after.after = omega arith in
+    seats_fail h _ _ _ c.requires _ _ i.place (i.rest ws h q) _ (omega arith) (rw e at c.first_seat_ok.ensures ws h) (not-true _ c.if-not-first_seat_ok.true-raw)
 
-pub overflow_add-a : goal.overflow_add-a
-overflow_add-a c = omega (arith, c.loop-left.invariant.place)
-
-pub loop-left-preserved : goal.loop-left-preserved
-loop-left-preserved c =
-    let i = c.loop-left.invariant in
+pub loop-after-preserved : goal.loop-after-preserved
+loop-after-preserved c =
+    let i = c.loop-after.invariant in
+    let e : c.loop-after.after - 1 + 1 ≡ c.loop-after.after = omega arith in
     record {
       place = omega (arith, i.place);
-      rest = λ ws h q. seats_more h _ _ _ c.requires _ _ i.place (i.rest ws h q) _ (omega arith) (c.first_seat_ok.ensures ws h) (not-false _ c.if-not-first_seat_ok.false-raw);
+      rest = λ ws h q. seats_more h _ _ _ c.requires _ _ i.place (i.rest ws h q) _ (omega arith) (rw e at c.first_seat_ok.ensures ws h) (not-false _ c.if-not-first_seat_ok.false-raw);
     }
 
 pub returns : goal.returns
-returns c = λ ws h q. let i = c.loop-left.invariant in seats_over h _ _ _ c.requires _ _ i.place (i.rest ws h q) (omega arith)
+returns c = λ ws h q. let i = c.loop-after.invariant in seats_over h _ _ _ c.requires _ _ i.place (i.rest ws h q) (omega arith)

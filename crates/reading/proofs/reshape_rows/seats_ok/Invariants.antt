@@ -11,8 +11,5 @@ pub record Held (target n : ℕ) (bytes : List ℕ) (at left a : ℕ) : Type 0 w
   pub place : a + left * seat_width ≡ 1 + n * seat_width
   pub rest : (ws : List ℕ) → AsWords bytes ws → n ≡ get_or ws at 0 → SeatsLeft target n at ws left a
 
-abbrev pub invariant-loop-left : goal.invariant-loop-left
-invariant-loop-left l = Held l.target l.n l.bytes l.at l.left l.a
-
-abbrev pub decreases-loop-left : goal.decreases-loop-left
-decreases-loop-left l = l.left
+abbrev pub invariant-loop-after : goal.invariant-loop-after
+invariant-loop-after l = Held l.target l.n l.bytes l.at l.after l.seat

@@ -1,3 +1,4 @@
+use mathlib.Core.Path.{◌∙◌}
 use lib.ListN.{set}
 use Rattle.rules.specs.Table.{entry}
 use Rattle.rules.specs.Board.{most_bounds}
@@ -11,4 +12,4 @@ pub returns : goal.returns
 returns c = λ b h l.
     let a = c.args in
     let y = entry a.shard.0 (new_boundary a.height.0 a.epoch.0) in
-    held_bounds _ b h _ (set b.bounds a.i y) (row_back bounds _ b h a.i no_boundary l y _ c.store_new.ensures) (set_room most_bounds b.bounds a.i y h.fits.bounds)
+    held_bounds _ b h _ (set b.bounds a.i y) (row_back bounds _ b h a.i no_boundary l y _ (c.copy_from_slice.ensures.after ∙ c.new_row.ensures)) (set_room most_bounds b.bounds a.i y h.fits.bounds)

@@ -1,4 +1,4 @@
-use Prim.Native.Nat.{◌+◌, ◌-◌, ◌≤◌}
+use Prim.Native.Nat.{◌+◌, ◌≤◌}
 use mathlib.Core.Path.{◌≡◌}
 use lib.ListN.{length, drop}
 use Rattle.rules.specs.Board.{Board, Rotation, most_rotations}
@@ -11,6 +11,3 @@ abbrev pub invariant-loop-i : goal.invariant-loop-i
 invariant-loop-i l = (l.i ≤ l.n) × (l.n ≤ most_rotations)
     × ((b : Board) (p : Rotation) → Holds l.ws b → p.shard ≡ l.shard.0 → p.victim ≡ l.victim.0
     → (l.n ≡ length b.rotations) × (l.i + first_where (rotation_before p) (drop l.i b.rotations) ≡ first_where (rotation_before p) b.rotations))
-
-abbrev pub decreases-loop-i : goal.decreases-loop-i
-decreases-loop-i l = l.n - l.i

@@ -1,3 +1,4 @@
+use mathlib.Core.Path.{◌∙◌}
 use lib.ListN.{set}
 use Rattle.rules.specs.Board.{most_rotations}
 use Rattle.board.specs.Held.{no_rotation}
@@ -10,5 +11,5 @@ pub returns : goal.returns
 returns c = λ b h l.
     let a = c.args in
     held_rotations _ b h _ (set b.rotations a.i (rotation_of a.r))
-    (row_back rotations _ b h a.i no_rotation l (rotation_of a.r) _ c.store.ensures)
+    (row_back rotations _ b h a.i no_rotation l (rotation_of a.r) _ (c.copy_from_slice.ensures.after ∙ c.row.ensures))
     (set_room most_rotations b.rotations a.i (rotation_of a.r) h.fits.rotations)

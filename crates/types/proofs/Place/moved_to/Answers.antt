@@ -1,4 +1,0 @@
-use Rattle.types.proofs.Place.moved_to.Goals as goal
-
-pub returns-in-Seated : goal.returns-in-Seated
-returns-in-Seated c = rw c.in-Seated.is c.seated.ensures
