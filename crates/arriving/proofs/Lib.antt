@@ -1,3 +1,2 @@
 pub mod Comes
 pub mod Lists
-pub mod Batch

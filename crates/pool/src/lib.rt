@@ -56,7 +56,7 @@ pub fn pool_size(ws: &[u64]) -> usize
 }
 
 // The row of the machine with rank k in the pool; none where the pool has no such rank.
-pub fn pooled_at_rank(ws: &[u64], k: usize) -> Option<usize>
+pub fn find_at_rank(ws: &[u64], k: usize) -> Option<usize>
     requires { length ws.now ≡ board_size }
     ensures { MatchOption result ((b : Board) → Holds ws.now b → length (pool_of b) ≤ k)
         (λ i. (i < most_machines) × ((b : Board) → Holds ws.now b → k < length (pool_of b) → HasRank k i b)) }
@@ -73,6 +73,14 @@ pub fn pooled_at_rank(ws: &[u64], k: usize) -> Option<usize>
         }
     }
     None
+}
+
+// The same; row 0 where the pool has no such rank.
+pub fn pooled_at_rank(ws: &[u64], k: usize) -> usize
+    requires { length ws.now ≡ board_size }
+    ensures { (result < most_machines) × ((b : Board) → Holds ws.now b → k < length (pool_of b) → HasRank k result b) }
+{
+    find_at_rank(ws, k).unwrap_or(0)
 }
 
 // ---- onto a shard
@@ -102,8 +110,6 @@ pub fn draw_one(ws: &[u64], draws: &[u64], at: Reader) -> Result<Option<(usize, 
         return Ok(None);
     }
     let (k, left) = at.draw_index(draws, (n - 1) as u64)?;
-    let Some(i) = pooled_at_rank(ws, k as usize) else {
-        return Ok(None);
-    };
+    let i = pooled_at_rank(ws, k as usize);
     Ok(Some((i, left)))
 }

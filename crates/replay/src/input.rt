@@ -1,5 +1,5 @@
 // The recorded file: words one after another; past its end, and past a read that fails, each is 0.
-use rooms::{Bytes, read_full};
+use rooms::read_full;
 use std::io::Read;
 
 pub(crate) fn word(file: &mut impl Read) -> u64 {
@@ -16,9 +16,8 @@ pub(crate) fn fill(file: &mut impl Read, room: &mut [u64]) {
 }
 
 // So many bytes, and no more than there is room for.
-pub(crate) fn bytes(file: &mut impl Read, n: u64) -> Bytes<65536> {
-    let mut room = [0; 65536];
+pub(crate) fn bytes<'a>(file: &mut impl Read, n: u64, room: &'a mut [u8]) -> &'a [u8] {
     let k = room.len().min(n as usize);
     read_full(file, &mut room[..k]);
-    Bytes::of(room, k)
+    &room[..k]
 }

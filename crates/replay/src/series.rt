@@ -3,7 +3,6 @@ use crate::calls::Call;
 use crate::kinds::Kind;
 use crate::tally::Tally;
 use crate::{calls, input, sums};
-use rooms::Bytes;
 use std::io::Read;
 
 const WORDS: usize = 5861;
@@ -15,32 +14,32 @@ const MOST_CALLS: u64 = 65536;
 
 const MOST_WORDS: u64 = 8192;
 
-const MOST_BYTES: u64 = 65536;
+// Room for a snapshot, which each function that needs it lends.
+const MOST_BYTES: usize = 65536;
 
 const NOT_WELL_FORMED: u64 = 1;
 
-// None where the words hold no well-formed board.
-fn snapshot_of(board: &[u64; WORDS]) -> Option<Bytes<65536>> {
-    let mut room = [0; 65536];
+// In lent room; none where the words hold no well-formed board.
+fn snapshot_of<'a>(board: &[u64; WORDS], room: &'a mut [u8; MOST_BYTES]) -> Option<&'a [u8]> {
     let mut length: u64 = 0;
-    if roster::roster_write(board, &mut room, &mut length) != 0 {
+    if roster::roster_write(board, room, &mut length) != 0 {
         return None;
     }
-    Some(Bytes::of(room, length as usize))
+    room.get(..length as usize)
 }
 
 // The checksum of the board's snapshot; 0 where there is none.
 fn sum_of(board: &[u64; WORDS]) -> u64 {
-    match snapshot_of(board) {
-        Some(snapshot) => sums::checksum(snapshot.as_slice()),
+    match snapshot_of(board, &mut [0; MOST_BYTES]) {
+        Some(snapshot) => sums::checksum(snapshot),
         None => 0,
     }
 }
 
 // Whether the board's snapshot has these bytes.
 fn is_written_as(board: &[u64; WORDS], bytes: &[u8]) -> bool {
-    match snapshot_of(board) {
-        Some(snapshot) => snapshot.as_slice() == bytes,
+    match snapshot_of(board, &mut [0; MOST_BYTES]) {
+        Some(snapshot) => snapshot == bytes,
         None => false,
     }
 }
@@ -66,13 +65,12 @@ fn begins<'a>(bytes: &'a [u8], board: &mut [u64; WORDS], tally: &mut Tally) -> S
 
 // Reads the bytes into words that stay as they are where it refuses.
 fn reads_as(call: Call, bytes: &[u8], board: &[u64; WORDS]) -> bool {
-    let untouched = [7; WORDS];
-    let mut other = untouched;
+    let mut other = [7; WORDS];
     let answer = roster::roster_read(bytes, &mut other);
     if answer == 0 {
         return call.answer == 0 && *board == other;
     }
-    call.answer == answer && untouched == other
+    call.answer == answer && other == [7; WORDS]
 }
 
 // Reads the snapshot as it is: the board's, or the starting bytes where they are no board's.
@@ -80,8 +78,8 @@ fn reads_again(call: Call, start: Start, board: &[u64; WORDS]) -> bool {
     if !start.is_board {
         return reads_as(call, start.bytes, board);
     }
-    match snapshot_of(board) {
-        Some(snapshot) => reads_as(call, snapshot.as_slice(), board),
+    match snapshot_of(board, &mut [0; MOST_BYTES]) {
+        Some(snapshot) => reads_as(call, snapshot, board),
         None => false,
     }
 }
@@ -146,22 +144,24 @@ fn end(
     tally: &mut Tally,
 ) {
     let long = input::word(file) % MOST_WORDS * 8;
-    let last = input::bytes(file, long);
+    let mut room = [0; MOST_BYTES];
+    let last = input::bytes(file, long, &mut room);
     if !known {
         tally.pass_over(Kind::Last);
     } else if start.is_board {
-        tally.add(Kind::Last, is_written_as(board, last.as_slice()));
+        tally.add(Kind::Last, is_written_as(board, last));
     } else {
-        tally.add(Kind::Last, words == last.as_slice());
+        tally.add(Kind::Last, words == last);
     }
 }
 
 pub(crate) fn follow(file: &mut impl Read, tally: &mut Tally) {
     let mut board = [0; WORDS];
-    let long = input::word(file) % MOST_BYTES;
-    let words = input::bytes(file, (long + 7) / 8 * 8);
-    let bytes = words.as_slice().get(..long as usize).unwrap_or(&[]);
+    let mut room = [0; MOST_BYTES];
+    let long = input::word(file) % MOST_BYTES as u64;
+    let words = input::bytes(file, (long + 7) / 8 * 8, &mut room);
+    let bytes = words.get(..long as usize).unwrap_or(&[]);
     let start = begins(bytes, &mut board, tally);
     let known = follow_calls(file, start, &mut board, tally);
-    end(file, words.as_slice(), start, &board, known, tally);
+    end(file, words, start, &board, known, tally);
 }

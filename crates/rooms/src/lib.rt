@@ -2,6 +2,7 @@
 #![tactic(auto)]
 
 ghost use Rattle.std.specs.Prelude.{◌≡◌, ◌==◌, ◌≤◌, length, min, take};
+ghost use Rattle.std.specs.Io.KnownBytes.{Consumes};
 
 use std::env::Env;
 use std::io::Read;
@@ -37,15 +38,26 @@ impl<const N: usize> Bytes<N> {
         self.length == N
     }
 
-    // Reads until the room is full, the file ends or a read fails.
-    pub fn read(file: &mut impl Read) -> Self {
-        let mut room = [0; N];
-        let length = read_full(file, &mut room);
-        Bytes::of(room, length)
+    pub fn none() -> Self
+        ensures { result.length ≡ 0 }
+    {
+        Bytes {
+            room: [0; N],
+            length: 0,
+        }
+    }
+
+    // Reads anew, in place, until the room is full, the file ends or a read fails.
+    pub fn read<R: Read>(&mut self, file: &mut R)
+        ensures { Consumes (R.remaining file.old) (R.remaining file.new) (take self.new.length self.new.room) }
+    {
+        self.length = read_full(file, &mut self.room);
     }
 
     // The word at i that the program was started with; no bytes where it is missing, or longer than the room.
-    pub fn word(rt: &impl Env, i: usize) -> Self {
+    pub fn word(rt: &impl Env, i: usize) -> Self
+        ensures { result.length ≤ N }
+    {
         let mut room = [0; N];
         let length = rt.arg(i, &mut room).unwrap_or(0);
         Bytes::of(room, length)
@@ -53,8 +65,9 @@ impl<const N: usize> Bytes<N> {
 }
 
 // Reads until the room is full, the file ends or a read fails: how many bytes stand at the start of the room.
-pub fn read_full(file: &mut impl Read, room: &mut [u8]) -> usize
-    ensures { result ≤ length room.new }
+pub fn read_full<R: Read>(file: &mut R, room: &mut [u8]) -> usize
+    ensures within { result ≤ length room.new }
+    ensures bytes { Consumes (R.remaining file.old) (R.remaining file.new) (take result room.new) }
 {
     let mut done = 0;
     for _ in 0..room.len() {

@@ -34,24 +34,26 @@ fn machine(rt: &impl Print, before: &[u8], row: Row) -> io::Result<()> {
     end(rt, &line, a)
 }
 
-fn committee(rt: &impl Print, before: &[u8], row: Row) -> io::Result<()> {
+fn head(rt: &impl Print, before: &[u8], template: &[u8], words: &[u64]) -> io::Result<()> {
     let mut line = [0u8; WIDTH];
     let a = put_text(&mut line, 0, before);
+    let b = fill(&mut line, a, template, words);
+    end(rt, &line, b)
+}
+
+fn committee(rt: &impl Print, before: &[u8], row: Row) -> io::Result<()> {
     let words = facts::row(row.board, Section::Committees, 0, row.at);
-    let b = fill(&mut line, a, b"committee of shard #, members #", words);
-    end(rt, &line, b)?;
+    head(rt, before, b"committee of shard #, members #", words)?;
     lists::list(rt, facts::ids(row.board, Section::Members, row.at))
 }
 
 fn boundary(rt: &impl Print, before: &[u8], row: Row) -> io::Result<()> {
-    say::text(rt, before)?;
-    println!(rt; "boundary")?;
+    head(rt, before, b"boundary", &[])?;
     rows_of::boundary(rt, row.board, row.at)
 }
 
 fn rotation(rt: &impl Print, before: &[u8], row: Row) -> io::Result<()> {
-    say::text(rt, before)?;
-    println!(rt; "rotation")?;
+    head(rt, before, b"rotation", &[])?;
     rows_of::rotation(rt, row.board, row.at)
 }
 
@@ -209,11 +211,11 @@ fn walk(rt: &impl Print, which: Section, a: &[u64; WORDS], b: &[u64; WORDS]) -> 
 }
 
 // Whether it is another.
-fn setting(rt: &impl Print, name: &str, k: usize, a: &[u64], b: &[u64]) -> io::Result<bool> {
+fn setting(rt: &impl Print, template: &[u8], k: usize, a: &[u64], b: &[u64]) -> io::Result<bool> {
     let was = number_at(a, k);
     let is = number_at(b, k);
     if was != is {
-        println!(rt; "  {name} {was} -> {is}")?;
+        say::row(rt, template, &[was, is])?;
     }
     Ok(was != is)
 }
@@ -221,12 +223,12 @@ fn setting(rt: &impl Print, name: &str, k: usize, a: &[u64], b: &[u64]) -> io::R
 fn walk_settings(rt: &impl Print, a: &[u64; WORDS], b: &[u64; WORDS]) -> io::Result<bool> {
     let was = Section::Settings.table(a, 0);
     let is = Section::Settings.table(b, 0);
-    let epoch = setting(rt, "epoch", 1, was, is)?;
-    let size = setting(rt, "shard size", 2, was, is)?;
-    let drain = setting(rt, "drain length", 3, was, is)?;
-    let wait = setting(rt, "ready wait", 4, was, is)?;
-    let interval = setting(rt, "shuffle interval", 5, was, is)?;
-    let most = setting(rt, "most rotations in flight", 6, was, is)?;
+    let epoch = setting(rt, b"  epoch # -> #", 1, was, is)?;
+    let size = setting(rt, b"  shard size # -> #", 2, was, is)?;
+    let drain = setting(rt, b"  drain length # -> #", 3, was, is)?;
+    let wait = setting(rt, b"  ready wait # -> #", 4, was, is)?;
+    let interval = setting(rt, b"  shuffle interval # -> #", 5, was, is)?;
+    let most = setting(rt, b"  most rotations in flight # -> #", 6, was, is)?;
     Ok(epoch | size | drain | wait | interval | most)
 }
 

@@ -1,7 +1,10 @@
 // What ends a run that did not do what was asked: it is told at the end, as the last line.
+use crate::say::WIDTH;
 use crate::{args, say};
+use lines::put_text;
 use std::env::Env;
-use std::{fmt, io};
+use std::io;
+use templates::fill;
 
 #[derive(Clone, Copy)]
 pub(crate) enum Mistake {
@@ -42,39 +45,38 @@ impl From<io::Error> for Failure {
 }
 
 impl Mistake {
-    fn text(self) -> &'static str {
+    // '#' is the word at which reading stopped.
+    fn template(self) -> &'static [u8] {
         match self {
-            Mistake::NoSuchCommand => "there is no such command (./roster help lists them): ",
-            Mistake::OneTooMany => "one argument too many: ",
-            Mistake::NoNumber => "this is no number from 0 to 18446744073709551615: ",
-            Mistake::NoSuchFile => "there is no such file: ",
-            Mistake::NotRead => "this file cannot be read: ",
-            Mistake::TooLong => "longer than any snapshot, which has at most 46816 bytes: ",
-            Mistake::NoSnapshot(_) => "not a snapshot of a well-formed board; reading stopped at ",
-            Mistake::FileMissing => "a snapshot's file is missing (./roster help)",
-            Mistake::NotMade => "this file cannot be made, or is there already: ",
-            Mistake::NotWritten => "the snapshot could not be written to ",
-            Mistake::NotPut => "the snapshot could not be put at ",
-            Mistake::DrawsNoNumber => "these draws have a word that is no number: ",
-            Mistake::TooManyDraws => "more than 4096 draws: ",
-            Mistake::LongDraws => "a file of draws has fewer than 65536 bytes: ",
-            Mistake::OutMissing => "a file's name is missing after --out",
+            Mistake::NoSuchCommand => b"there is no such command (./roster help lists them): ",
+            Mistake::OneTooMany => b"one argument too many: ",
+            Mistake::NoNumber => b"this is no number from 0 to 18446744073709551615: ",
+            Mistake::NoSuchFile => b"there is no such file: ",
+            Mistake::NotRead => b"this file cannot be read: ",
+            Mistake::TooLong => b"longer than any snapshot, which has at most 46816 bytes: ",
+            Mistake::NoSnapshot(_) =>
+                b"not a snapshot of a well-formed board; reading stopped at word #: ",
+            Mistake::FileMissing => b"a snapshot's file is missing (./roster help)",
+            Mistake::NotMade => b"this file cannot be made, or is there already: ",
+            Mistake::NotWritten => b"the snapshot could not be written to ",
+            Mistake::NotPut => b"the snapshot could not be put at ",
+            Mistake::DrawsNoNumber => b"these draws have a word that is no number: ",
+            Mistake::TooManyDraws => b"more than 4096 draws: ",
+            Mistake::LongDraws => b"a file of draws has fewer than 65536 bytes: ",
+            Mistake::OutMissing => b"a file's name is missing after --out",
             Mistake::NumberMissing =>
-                "a number is missing (./roster help says what a step takes): ",
-            Mistake::NoDrawsTaken => "this step takes no draws: ",
-            Mistake::StepMissing => "a step's name is missing (./roster help lists them)",
-            Mistake::NoSuchStep => "there is no such step (./roster help lists them): ",
+                b"a number is missing (./roster help says what a step takes): ",
+            Mistake::NoDrawsTaken => b"this step takes no draws: ",
+            Mistake::StepMissing => b"a step's name is missing (./roster help lists them)",
+            Mistake::NoSuchStep => b"there is no such step (./roster help lists them): ",
         }
     }
-}
 
-impl fmt::Display for Mistake {
-    fn fmt<W: fmt::Write>(&self, f: &mut fmt::Formatter<W>) -> fmt::Result {
-        f.write_str(self.text())?;
-        if let Mistake::NoSnapshot(word) = self {
-            return write!(f, "word {word}: ");
+    fn number(self) -> u64 {
+        match self {
+            Mistake::NoSnapshot(word) => word as u64,
+            _ => 0,
         }
-        Ok(())
     }
 }
 
@@ -89,7 +91,10 @@ fn tell_word(rt: &(impl Env + Print), what: Mistake, i: usize) -> io::Result<()>
 
 // The last line of a run: what is wrong, and with which word of the clerk's.
 pub(crate) fn tell(rt: &(impl Env + Print), what: Mistake, about: Option<usize>) -> io::Result<()> {
-    print!(rt; "mistake: {what}")?;
+    let mut line = [0u8; WIDTH];
+    let a = put_text(&mut line, 0, b"mistake: ");
+    let b = fill(&mut line, a, what.template(), &[what.number()]);
+    say::laid(rt, &line, b)?;
     if let Some(i) = about {
         tell_word(rt, what, i)?;
     }

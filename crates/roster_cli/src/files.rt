@@ -22,10 +22,17 @@ fn opened<R: Files>(rt: &R, path: &[u8]) -> io::Result<R::File> {
     File::open(rt, path_text(path)?)
 }
 
-// The bytes of the file that the word at i names, as far as there is room.
-pub(crate) fn read<R: Env + Files>(rt: &R, i: usize) -> Result<Bytes<MOST_READ>, Failure> {
+// The bytes of the file that the word at i names, as far as there is room; in lent room, since a copy of so much is slow.
+pub(crate) fn read<R: Env + Files>(
+    rt: &R,
+    i: usize,
+    room: &mut Bytes<MOST_READ>,
+) -> Result<(), Failure> {
     let what = match opened(rt, args::word(rt, i).as_slice()) {
-        Ok(mut file) => return Ok(Bytes::read(&mut file)),
+        Ok(mut file) => {
+            room.read(&mut file);
+            return Ok(());
+        }
         Err(e) if e.kind() == ErrorKind::NotFound => Mistake::NoSuchFile,
         Err(_) => Mistake::NotRead,
     };
@@ -41,7 +48,8 @@ pub(crate) fn read_board(
     if args::is_missing(rt, i) {
         return Err(Failure::Mistake(Mistake::FileMissing, None));
     }
-    let file = read(rt, i)?;
+    let mut file = Bytes::none();
+    read(rt, i, &mut file)?;
     let bytes = file.as_slice();
     if roster::roster_read(bytes, board) == 0 {
         return Ok(());
@@ -72,12 +80,17 @@ fn put_in(file: &mut (impl Write + OpenFile), bytes: &[u8]) -> bool {
     is_written && is_kept
 }
 
+// Whether the bytes are in the new file, which is closed then.
+fn put_new(rt: &impl Files, new: &[u8], bytes: &[u8]) -> Result<bool, Mistake> {
+    match made(rt, new) {
+        Ok(mut file) => Ok(put_in(&mut file, bytes)),
+        Err(_) => Err(Mistake::NotMade),
+    }
+}
+
 // To a new file first, and then by rename, so that a cut run never leaves half a file.
 fn put_at(rt: &impl Files, path: &[u8], new: &[u8], bytes: &[u8]) -> Result<(), Mistake> {
-    let Ok(mut file) = made(rt, new) else {
-        return Err(Mistake::NotMade);
-    };
-    if !put_in(&mut file, bytes) {
+    if !put_new(rt, new, bytes)? {
         let _ = removed(rt, new);
         return Err(Mistake::NotWritten);
     }
@@ -88,26 +101,20 @@ fn put_at(rt: &impl Files, path: &[u8], new: &[u8], bytes: &[u8]) -> Result<(), 
     Ok(())
 }
 
-fn written(board: &[u64; WORDS]) -> Bytes<MOST_READ> {
-    let mut room = [0; MOST_READ];
-    let mut length: u64 = 0;
-    roster::roster_write(board, &mut room, &mut length);
-    Bytes::of(room, length as usize)
-}
-
 // The snapshot, in the file that the word at i names.
 pub(crate) fn write_board(
     rt: &(impl Env + Files),
     i: usize,
     board: &[u64; WORDS],
 ) -> Result<(), Failure> {
+    let mut room = [0; MOST_READ];
+    let mut length: u64 = 0;
+    roster::roster_write(board, &mut room, &mut length);
+    let bytes = &room[..MOST_READ.min(length as usize)];
     let path = args::word(rt, i);
     let new = args::new_beside(path.as_slice());
-    put_at(
-        rt,
-        path.as_slice(),
-        new.as_slice(),
-        written(board).as_slice(),
-    )
-    .map_err(|what| Failure::Mistake(what, Some(i)))
+    put_at(rt, path.as_slice(), new.as_slice(), bytes).map_err(|what| Failure::Mistake(
+        what,
+        Some(i),
+    ))
 }

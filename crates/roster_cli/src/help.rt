@@ -1,9 +1,9 @@
 // What the command can do.
-use crate::say::text;
+use crate::say::all;
 use std::io;
 
 fn tell_commands(rt: &impl Print) -> io::Result<()> {
-    text(
+    all(
         rt,
         b"./roster                      the demo\n\
           ./roster demo                 a built-in board, from a split's admission to its cut\n\
@@ -16,11 +16,12 @@ fn tell_commands(rt: &impl Print) -> io::Result<()> {
           ./roster help                 this\n\
           \n\
           The steps of `./roster step FILE NAME`, with the numbers and draws that each takes:\n",
+        11,
     )
 }
 
 fn tell_steps(rt: &impl Print) -> io::Result<()> {
-    text(
+    all(
         rt,
         b"  tick                              the epoch plus one\n\
           \x20 time_out                          waiting machines at their deadline become ready\n\
@@ -41,6 +42,7 @@ fn tell_steps(rt: &impl Print) -> io::Result<()> {
           Draws are numbers with blanks, commas or line ends between them; a word that begins with no\n\
           digit is the name of a file of them. A line that begins with 'mistake: ' says what was wrong;\n\
           nothing is written then, and the command's status is 2.\n",
+        19,
     )
 }
 

@@ -1,7 +1,7 @@
 // The lines of a roster's tables: the rows are looked up, laid and written.
-use crate::facts;
 use crate::files::WORDS;
 use crate::say::{WIDTH, end};
+use crate::{facts, say};
 use board::layout::{
     BOUNDARY_WIDTH, BOUNDS_AT, MOST_BOUNDS, MOST_COMMITTEES, MOST_MEMBERS, MOST_RESHAPES,
     MOST_ROTATIONS, MOST_SEATS,
@@ -16,7 +16,11 @@ use std::io;
 use types::{BlockHeight, Epoch, Machine, ShardId};
 
 fn member_without(rt: &impl Print, id: u64) -> io::Result<()> {
-    println!(rt; "{id:>22}  not here: it has no record")
+    say::row(
+        rt,
+        b"######################  not here: it has no record",
+        &[id],
+    )
 }
 
 pub(crate) fn member(rt: &impl Print, board: &[u64; WORDS], j: usize, k: usize) -> io::Result<()> {

@@ -22,7 +22,11 @@ fn settings(rt: &impl Print, board: &[u64; WORDS]) -> io::Result<()> {
     let epoch = number_at(s, 1);
     let size = number_at(s, 2);
     let quorum = waits::quorum(board);
-    println!(rt; "epoch {epoch}; shard size {size}, quorum {quorum}")?;
+    say::row(
+        rt,
+        b"epoch #; shard size #, quorum #",
+        &[epoch, size, quorum],
+    )?;
     say::row(
         rt,
         b"~~~drain length #; ready wait #; shuffle interval #; most rotations in flight #",
@@ -31,14 +35,17 @@ fn settings(rt: &impl Print, board: &[u64; WORDS]) -> io::Result<()> {
 }
 
 fn totals(rt: &impl Print, board: &[u64; WORDS]) -> io::Result<()> {
-    let all = facts::count(board, Section::Machines, 0);
-    let seated = lists::count_of(board, Kind::Seated);
-    let watching = lists::count_of(board, Kind::Watching);
-    let pooled = lists::count_of(board, Kind::Pooled);
-    let short = lists::count_of(board, Kind::Short);
-    let other = lists::count_of(board, Kind::Other);
-    println!(rt;
-        "\nmachines: {all}: seated {seated}, watching {watching}, pooled {pooled}, short of stake {short}, other {other}"
+    let all = facts::count(board, Section::Machines, 0) as u64;
+    let seated = lists::count_of(board, Kind::Seated) as u64;
+    let watching = lists::count_of(board, Kind::Watching) as u64;
+    let pooled = lists::count_of(board, Kind::Pooled) as u64;
+    let short = lists::count_of(board, Kind::Short) as u64;
+    let other = lists::count_of(board, Kind::Other) as u64;
+    println!(rt)?;
+    say::row(
+        rt,
+        b"machines: #: seated #, watching #, pooled #, short of stake #, other #",
+        &[all, seated, watching, pooled, short, other],
     )
 }
 
@@ -49,9 +56,14 @@ fn committee(rt: &impl Print, board: &[u64; WORDS], j: usize) -> io::Result<()> 
     let shard = number_at(row, 0);
     let members = number_at(row, 1);
     let on = waits::members_on(board, ShardId(shard));
-    let seated = on.seated;
-    let ready = on.ready;
-    println!(rt; "\nshard {shard}: members {members}, seated {seated}, ready {ready}")?;
+    let seated = on.seated as u64;
+    let ready = on.ready as u64;
+    println!(rt)?;
+    say::row(
+        rt,
+        b"shard #: members #, seated #, ready #",
+        &[shard, members, seated, ready],
+    )?;
     for k in 0..members as usize {
         rows_of::member(rt, board, j, k)?;
     }
@@ -68,8 +80,10 @@ fn child(rt: &impl Print, board: &[u64; WORDS], i: usize, child: u64, half: u64)
     let quorum = waits::quorum(board);
     let lacks = quorum.saturating_sub(ready);
     if lacks == 0 {
-        return println!(rt;
-            "  child {child}: seats {seats}, ready {ready}: they reach the quorum of {quorum}"
+        return say::row(
+            rt,
+            b"  child #: seats #, ready #: they reach the quorum of #",
+            &[child, seats, ready, quorum],
         );
     }
     say::row(
@@ -95,14 +109,22 @@ fn children(rt: &impl Print, board: &[u64; WORDS], i: usize, target: u64) -> io:
 fn keepers(rt: &impl Print, board: &[u64; WORDS], i: usize) -> io::Result<()>
     requires { i < most_reshapes }
 {
-    let n = facts::count(board, Section::Seats, i);
+    let n = facts::count(board, Section::Seats, i) as u64;
     let ready = drains::ready_seats(board, i, Whose::All) as u64;
     let quorum = waits::quorum(board);
     let lacks = quorum.saturating_sub(ready);
     if lacks == 0 {
-        return println!(rt; "  keepers {n}, ready {ready}: they reach the quorum of {quorum}");
+        return say::row(
+            rt,
+            b"  keepers #, ready #: they reach the quorum of #",
+            &[n, ready, quorum],
+        );
     }
-    println!(rt; "  keepers {n}, ready {ready}; for the quorum it waits for ready keepers: {lacks}")
+    say::row(
+        rt,
+        b"  keepers #, ready #; for the quorum it waits for ready keepers: #",
+        &[n, ready, lacks],
+    )
 }
 
 fn gate(rt: &impl Print, board: &[u64; WORDS], i: usize) -> io::Result<()> {
@@ -137,9 +159,9 @@ fn committees(rt: &impl Print, board: &[u64; WORDS]) -> io::Result<()> {
     Ok(())
 }
 
-fn of_kind(rt: &impl Print, name: &str, kind: Kind, board: &[u64; WORDS]) -> io::Result<()> {
+fn of_kind(rt: &impl Print, heading: &[u8], kind: Kind, board: &[u64; WORDS]) -> io::Result<()> {
     let n = lists::count_of(board, kind);
-    println!(rt; "{name}: {n}")?;
+    say::row(rt, heading, &[n as u64])?;
     if 0 < n {
         lists::list_kind(rt, kind, board)?;
     }
@@ -148,15 +170,15 @@ fn of_kind(rt: &impl Print, name: &str, kind: Kind, board: &[u64; WORDS]) -> io:
 
 fn places(rt: &impl Print, board: &[u64; WORDS]) -> io::Result<()> {
     totals(rt, board)?;
-    of_kind(rt, "pool", Kind::Pooled, board)?;
-    of_kind(rt, "watching", Kind::Watching, board)?;
-    of_kind(rt, "short of stake", Kind::Short, board)?;
-    of_kind(rt, "other", Kind::Other, board)
+    of_kind(rt, b"pool: #", Kind::Pooled, board)?;
+    of_kind(rt, b"watching: #", Kind::Watching, board)?;
+    of_kind(rt, b"short of stake: #", Kind::Short, board)?;
+    of_kind(rt, b"other: #", Kind::Other, board)
 }
 
 fn rotations(rt: &impl Print, board: &[u64; WORDS]) -> io::Result<()> {
     let n = facts::count(board, Section::Rotations, 0);
-    println!(rt; "rotations: {n}")?;
+    say::row(rt, b"rotations: #", &[n as u64])?;
     for i in 0..n {
         rows_of::rotation(rt, board, i)?;
     }
@@ -165,7 +187,7 @@ fn rotations(rt: &impl Print, board: &[u64; WORDS]) -> io::Result<()> {
 
 fn boundaries(rt: &impl Print, board: &[u64; WORDS]) -> io::Result<()> {
     let n = facts::count(board, Section::Boundaries, 0);
-    println!(rt; "boundaries: {n}")?;
+    say::row(rt, b"boundaries: #", &[n as u64])?;
     for i in 0..n {
         rows_of::boundary(rt, board, i)?;
     }
@@ -174,7 +196,7 @@ fn boundaries(rt: &impl Print, board: &[u64; WORDS]) -> io::Result<()> {
 
 fn reshapes(rt: &impl Print, board: &[u64; WORDS]) -> io::Result<()> {
     let n = facts::count(board, Section::Reshapes, 0);
-    println!(rt; "reshapes: {n}")?;
+    say::row(rt, b"reshapes: #", &[n as u64])?;
     for i in 0..n {
         reshape(rt, board, i)?;
     }

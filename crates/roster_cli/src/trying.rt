@@ -6,6 +6,7 @@ use crate::files::WORDS;
 use crate::say::{WIDTH, end};
 use crate::{args, calls, diffs, files, say};
 use numerals::NumbersError;
+use rooms::Bytes;
 use std::env::Env;
 use std::fs::Files;
 use std::io;
@@ -47,7 +48,8 @@ impl Draws {
 }
 
 fn add_file(rt: &(impl Env + Files), i: usize, draws: &mut Draws) -> Result<(), Failure> {
-    let file = files::read(rt, i)?;
+    let mut file = Bytes::none();
+    files::read(rt, i, &mut file)?;
     if file.is_full() {
         return Err(Failure::Mistake(Mistake::LongDraws, Some(i)));
     }
@@ -161,9 +163,7 @@ pub(crate) fn tell(rt: &impl Print, answer: u64, results: &[u64; 2]) -> io::Resu
     let a = fill(&mut line, 0, b"answer #: ", &[answer]);
     let b = answers::put_answer(&mut line, a, answer);
     end(rt, &line, b)?;
-    let handled = results[0];
-    let used = results[1];
-    println!(rt; "handled {handled}, draws used {used}")
+    say::row(rt, b"handled #, draws used #", results)
 }
 
 // Written where the step is done, and where a step over several shards was refused at one: those before it stand.

@@ -1,6 +1,7 @@
 // The kinds of a board's rows as types: each table's test is compiled for its kind alone.
 ghost use Rattle.std.specs.Prelude.{true, false};
 ghost use Rattle.board.specs.Layout.{machine_width, committee_width, boundary_width, rotation_width, reshape_width};
+ghost use Rattle.word_tests.specs.Holding.{Unset};
 ghost use Rattle.row_tests.specs.Rows.{machine_ok, committee_ok, boundary_ok, rotation_ok, reshape_ok};
 
 use crate::{boundary_ok, committee_ok, machine_ok, reshape_ok, rotation_ok};
@@ -35,7 +36,9 @@ pub struct CommitteeRows {
 }
 
 impl CommitteeRows {
-    pub fn new() -> CommitteeRows {
+    pub fn new() -> CommitteeRows
+        ensures { Unset result.marks }
+    {
         CommitteeRows {
             marks: Marks::new(),
         }

@@ -6,7 +6,7 @@ use mathlib.Core.Bool.{true, false≢true}
 use native.Mathlib.Omega.{arith}
 use native.Mathlib.Nat.{mul-le-mul_right}
 use borrow.Rule.Slice.PartMut.{put_mid}
-use Rattle.std.specs.Prelude.{Option, None, Some}
+use Rattle.std.specs.Prelude.{Option, None, Some, unwrap_or}
 use Rattle.std.proofs.lemmas.Option.{none-some, same_Some}
 use lib.ListN.{length, get_or, take, drop, replicate, length-append, length-drop, length-replicate}
 use lib.Seq.{take_at, take_all, length-take-le}
@@ -119,6 +119,19 @@ module _ {k : RowKind} {w n : ℕ} {bytes : List ℕ} {at : ℕ} {before out : L
       go rest [] c g s = omega arith
       go rest (x ∷ rows) c g s =
           none-some _ (q.whole x (rows_words (snap_row k) rows ++ rest) (every_parts (roomy_row k) x rows g).0 (s ∙ append_assoc (snap_row k x) (rows_words (snap_row k) rows) rest)).1
+
+  -- the next row, or else the place 0 after it
+  pub unroll_on : (t : List ℕ) (r : Option ℕ) → 0 < left → length t ≡ length (take (a + w - a) (drop a out))
+      → ((ws : List ℕ) → AsWords bytes ws → RowRead k ws t next r) → Unrolled k w n bytes at before (put_mid a (a + w - a) out t) (left - 1) (a + w) (unwrap_or r 0)
+  unroll_on t (Some r) more l q = unroll_turn t r more l q
+  unroll_on t None more l q =
+      let e : left ≡ suc (left - 1) = omega arith in
+      record {
+        width = u.width;
+        long = put_same a w out t (unroll_room more) l ∙ u.long;
+        room = omega (arith, ap (λ (m : ℕ). m * w) e, u.room);
+        begun = λ ws h xs rest c g s. absurd (none-some _ ((unroll_none more t [] ws h (q ws h)).whole xs rest c g s).1);
+      }
 
   pub unroll_end : left ≤ 0 → (ws : List ℕ) → AsWords bytes ws → RowsRead k n ws out at (Some next)
   unfolding rows_words

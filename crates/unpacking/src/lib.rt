@@ -134,7 +134,8 @@ pub fn unpack_row(k: RowKind, bytes: &[u8], at: usize, out: &mut [u64]) -> Optio
 
 // ---- The board
 
-// n rows, one after another, and where the next section stands.
+// n rows, one after another, and where the next section stands. After a row that is not there the next is read from word 0 on: no
+// snapshot has one, but words that are none are laid so too, by `replay`.
 fn unpack_each(
     k: RowKind,
     w: usize,
@@ -149,7 +150,7 @@ fn unpack_each(
     let mut next = at;
     for i in 0..n {
         let row = i * w;
-        next = unpack_row(k, bytes, next, &mut out[row..row + w])?;
+        next = unpack_row(k, bytes, next, &mut out[row..row + w]).unwrap_or(0);
     }
     Some(next)
 }

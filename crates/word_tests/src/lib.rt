@@ -8,7 +8,7 @@ ghost use Rattle.word_tests.specs.Tests.{at, all_zero, rises};
 mod marks;
 mod rows;
 
-pub use marks::{Marks, Words, ids_ok};
+pub use marks::{MARKS, Marks, Words, ids_ok};
 pub use rows::{Row, table_ok};
 
 pub fn inside(low: u64, high: u64, x: u64) -> bool

@@ -2,11 +2,12 @@
 ghost use Rattle.std.specs.Prelude.{◌≡◌, List, ℕ, not, ◌+◌, ◌<◌, ◌≤◌, length, get_or, drop};
 ghost use Rattle.rules.specs.Lists.{has, distinct};
 ghost use Rattle.word_tests.specs.Tests.{ids_ok};
+ghost use Rattle.word_tests.specs.Holding.{Holding, Unset};
 
 use crate::all_zero;
 
 // How many marks tell ids apart.
-const MARKS: usize = 512;
+pub const MARKS: usize = 512;
 
 // Words wherever they stand, each read by its place among them.
 pub trait Words {
@@ -53,7 +54,16 @@ pub struct Marks {
 }
 
 impl Marks {
-    pub fn new() -> Marks {
+    // Any marks serve, and any stamp.
+    pub fn of(marks: [u8; MARKS], stamp: u8) -> Marks
+        ensures { Holding marks stamp result }
+    {
+        Marks { marks, stamp }
+    }
+
+    pub fn new() -> Marks
+        ensures { Unset result }
+    {
         Marks {
             marks: [0; MARKS],
             stamp: 0,

@@ -14,15 +14,11 @@ returns-in_err-k-clause-tells c =
     let p = err_from_is_err_and c.from_residual.result c.from_residual.ensures.1 in
     rw (p.1, p.2) (λ b h. from_failed _ (pool_of b) _ (c.pool_size-n.ensures.1 b h) c.if-n-eq0.false _ c.in_err-k.ensures)
 
-pub returns-in_default-clause-tells : goal.returns-in_default-clause-tells
-returns-in_default-clause-tells c = λ b h.
-    absurd (omega (arith, c.pool_size-n.ensures.1 b h, (drawn_reads _ _ _ _ c.in_ok-k.ensures.drew).fits, c.in_default.ensures b h, c.if-n-eq0.false))
-
 pub returns-clause-tells : goal.returns-clause-tells
 unfolding and_then
 returns-clause-tells c = λ b h.
     let n = c.pool_size-n.ensures.1 b h in
-    let k = c.in-Some.ensures.1 b h (omega (arith, n, (drawn_reads _ _ _ _ c.in_ok-k.ensures.drew).fits, c.if-n-eq0.false)) in
+    let k = c.pooled_at_rank-i.ensures.1 b h (omega (arith, n, (drawn_reads _ _ _ _ c.in_ok-k.ensures.drew).fits, c.if-n-eq0.false)) in
     record {
       within = k.within;
       read = c.in_ok-k.ensures.within;

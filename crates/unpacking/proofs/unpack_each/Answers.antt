@@ -1,5 +1,5 @@
 use native.Mathlib.Omega.{arith}
-use Rattle.unpacking.proofs.Sections.{unroll_start, unroll_lent, unroll_turn, unroll_none, unroll_end, unrolled_at}
+use Rattle.unpacking.proofs.Sections.{unroll_start, unroll_lent, unroll_on, unroll_end, unrolled_at}
 use Rattle.unpacking.proofs.unpack_each.Goals as goal
 
 pub loop-i-init : goal.loop-i-init
@@ -8,11 +8,8 @@ loop-i-init c = let a = c.args in unrolled_at (omega arith) (omega arith) (unrol
 pub unpack_row-requires : goal.unpack_row-requires
 unpack_row-requires c = unroll_lent c.loop-i.invariant (omega arith)
 
-pub returns-in_err-next : goal.returns-in_err-next
-returns-in_err-next c = λ ws h. rw c.from_residual.ensures (unroll_none c.loop-i.invariant (omega arith) _ _ ws h (c.in_err-next.ensures ws h))
-
 pub loop-i-preserved : goal.loop-i-preserved
-loop-i-preserved c = unrolled_at (omega arith) (omega arith) (unroll_turn c.loop-i.invariant _ c.in_ok-next.next (omega arith) c.unpack_row.auto.out c.in_ok-next.ensures)
+loop-i-preserved c = rw c.unwrap_or-next.ensures (unrolled_at (omega arith) (omega arith) (unroll_on c.loop-i.invariant _ _ (omega arith) c.unpack_row.auto.out c.unpack_row.ensures))
 
 pub returns : goal.returns
 returns c = unroll_end c.loop-i.invariant (omega arith)

@@ -8,8 +8,8 @@ use Rattle.types.specs.declared.Machine.{Machine}
 use Rattle.rules.specs.Moves.{pool_of}
 use Rattle.board.specs.Held.{no_machine}
 use Rattle.pool.proofs.Pools.{rank_found, rank_passed, rank_counted, rank_ended}
-use Rattle.pool.proofs.pooled_at_rank.Goals.{then-is_pooled+else-left-eq0, else-is_pooled}
-use Rattle.pool.proofs.pooled_at_rank.Goals as goal
+use Rattle.pool.proofs.find_at_rank.Goals.{then-is_pooled+else-left-eq0, else-is_pooled}
+use Rattle.pool.proofs.find_at_rank.Goals as goal
 
 least : (n k : ℕ) → (k < n → ⊥) → n ≤ k
 least n k f = omega arith

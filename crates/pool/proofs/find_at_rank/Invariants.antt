@@ -6,7 +6,7 @@ use Rattle.rules.specs.Board.{Board, most_machines}
 use Rattle.rules.specs.Moves.{pool_of}
 use Rattle.board.specs.Held.{Holds}
 use Rattle.pool.proofs.Pools.{Ranked}
-use Rattle.pool.proofs.pooled_at_rank.Given as goal
+use Rattle.pool.proofs.find_at_rank.Given as goal
 
 abbrev pub invariant-loop-i : goal.invariant-loop-i
 invariant-loop-i l = (l.i ≤ l.n) × (l.n ≤ most_machines)
