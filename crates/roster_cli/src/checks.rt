@@ -11,6 +11,7 @@ use fault_lines::{MachineFault, ReshapeFault, RotationFault};
 use fault_rows::Clause;
 use lines::put_text;
 use reshapes::{fields, seats as cohort};
+use rooms::Bytes;
 use shards::rotations;
 use std::env::Env;
 use std::fs::Files;
@@ -177,7 +178,7 @@ fn tell(rt: &impl Print, board: &[u64; WORDS]) -> io::Result<()> {
 pub(crate) fn run(rt: &(impl Env + Files + Print)) -> Result<(), Failure> {
     args::at_most(rt, 3)?;
     let mut board = [0u64; WORDS];
-    files::read_board(rt, 2, &mut board)?;
+    files::read_board(rt, 2, &mut Bytes::none(), &mut board)?;
     tell(rt, &board)?;
     Ok(())
 }

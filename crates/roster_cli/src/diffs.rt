@@ -6,6 +6,7 @@ use crate::say::{WIDTH, end};
 use crate::{args, facts, files, lined, lists, rows_of, say};
 use differences::Difference;
 use lines::put_text;
+use rooms::Bytes;
 use sections::Section;
 use std::env::Env;
 use std::fs::Files;
@@ -248,10 +249,11 @@ pub(crate) fn tell(rt: &impl Print, a: &[u64; WORDS], b: &[u64; WORDS]) -> io::R
 
 pub(crate) fn run(rt: &(impl Env + Files + Print)) -> Result<(), Failure> {
     args::at_most(rt, 4)?;
+    let mut file = Bytes::none();
     let mut a = [0u64; WORDS];
-    files::read_board(rt, 2, &mut a)?;
+    files::read_board(rt, 2, &mut file, &mut a)?;
     let mut b = [0u64; WORDS];
-    files::read_board(rt, 3, &mut b)?;
+    files::read_board(rt, 3, &mut file, &mut b)?;
     tell(rt, &a, &b)?;
     Ok(())
 }

@@ -39,17 +39,17 @@ pub(crate) fn read<R: Env + Files>(
     Err(Failure::Mistake(what, Some(i)))
 }
 
-// The board in the file that the word at i names.
+// The board in the file that the word at i names, which is read into lent room.
 pub(crate) fn read_board(
     rt: &(impl Env + Files),
     i: usize,
+    file: &mut Bytes<MOST_READ>,
     board: &mut [u64; WORDS],
 ) -> Result<(), Failure> {
     if args::is_missing(rt, i) {
         return Err(Failure::Mistake(Mistake::FileMissing, None));
     }
-    let mut file = Bytes::none();
-    read(rt, i, &mut file)?;
+    read(rt, i, file)?;
     let bytes = file.as_slice();
     if roster::roster_read(bytes, board) == 0 {
         return Ok(());
@@ -80,20 +80,21 @@ fn put_in(file: &mut (impl Write + OpenFile), bytes: &[u8]) -> bool {
     is_written && is_kept
 }
 
-// Whether the bytes are in the new file, which is closed then.
-fn put_new(rt: &impl Files, new: &[u8], bytes: &[u8]) -> Result<bool, Mistake> {
-    match made(rt, new) {
-        Ok(mut file) => Ok(put_in(&mut file, bytes)),
-        Err(_) => Err(Mistake::NotMade),
+// The bytes in a new file, which is closed before it is put anywhere.
+fn put_new(rt: &impl Files, new: &[u8], bytes: &[u8]) -> Result<(), Mistake> {
+    let Ok(mut file) = made(rt, new) else {
+        return Err(Mistake::NotMade);
+    };
+    if put_in(&mut file, bytes) {
+        return Ok(());
     }
+    let _ = removed(rt, new);
+    Err(Mistake::NotWritten)
 }
 
 // To a new file first, and then by rename, so that a cut run never leaves half a file.
 fn put_at(rt: &impl Files, path: &[u8], new: &[u8], bytes: &[u8]) -> Result<(), Mistake> {
-    if !put_new(rt, new, bytes)? {
-        let _ = removed(rt, new);
-        return Err(Mistake::NotWritten);
-    }
+    put_new(rt, new, bytes)?;
     if renamed(rt, new, path).is_err() {
         let _ = removed(rt, new);
         return Err(Mistake::NotPut);

@@ -8,6 +8,7 @@ use crate::lists::Kind;
 use crate::{args, facts, files, lined, lists, rows_of, say};
 use board::layout::MOST_RESHAPES;
 use drains::Whose;
+use rooms::Bytes;
 use sections::Section;
 use std::env::Env;
 use std::fs::Files;
@@ -215,7 +216,7 @@ pub(crate) fn tell(rt: &impl Print, board: &[u64; WORDS]) -> io::Result<()> {
 pub(crate) fn run(rt: &(impl Env + Files + Print)) -> Result<(), Failure> {
     args::at_most(rt, 3)?;
     let mut board = [0u64; WORDS];
-    files::read_board(rt, 2, &mut board)?;
+    files::read_board(rt, 2, &mut Bytes::none(), &mut board)?;
     tell(rt, &board)?;
     Ok(())
 }

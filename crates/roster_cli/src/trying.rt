@@ -2,7 +2,7 @@
 ghost use Rattle.std.specs.Prelude.{◌≤◌};
 
 use crate::failure::{Failure, Mistake};
-use crate::files::WORDS;
+use crate::files::{MOST_READ, WORDS};
 use crate::say::{WIDTH, end};
 use crate::{args, calls, diffs, files, say};
 use numerals::NumbersError;
@@ -47,9 +47,13 @@ impl Draws {
     }
 }
 
-fn add_file(rt: &(impl Env + Files), i: usize, draws: &mut Draws) -> Result<(), Failure> {
-    let mut file = Bytes::none();
-    files::read(rt, i, &mut file)?;
+fn add_file(
+    rt: &(impl Env + Files),
+    i: usize,
+    file: &mut Bytes<MOST_READ>,
+    draws: &mut Draws,
+) -> Result<(), Failure> {
+    files::read(rt, i, file)?;
     if file.is_full() {
         return Err(Failure::Mistake(Mistake::LongDraws, Some(i)));
     }
@@ -66,10 +70,15 @@ fn is_written_out(word: &[u8]) -> bool {
 }
 
 // The draws that the word at i says, or the file that it names.
-fn add_draws(rt: &(impl Env + Files), i: usize, draws: &mut Draws) -> Result<(), Failure> {
+fn add_draws(
+    rt: &(impl Env + Files),
+    i: usize,
+    file: &mut Bytes<MOST_READ>,
+    draws: &mut Draws,
+) -> Result<(), Failure> {
     let word = args::word(rt, i);
     if !is_written_out(word.as_slice()) {
-        return add_file(rt, i, draws);
+        return add_file(rt, i, file, draws);
     }
     draws
         .add(word.as_slice())
@@ -97,6 +106,7 @@ struct Options {
 fn taken(
     rt: &(impl Env + Files),
     from: usize,
+    file: &mut Bytes<MOST_READ>,
     draws: &mut Draws,
 ) -> Result<Option<usize>, Failure> {
     let mut options = Options {
@@ -107,7 +117,7 @@ fn taken(
         if args::is_missing(rt, i) {
             break;
         }
-        options = with_word(rt, options, i, draws)?;
+        options = with_word(rt, options, i, file, draws)?;
     }
     if options.next == Wanted::NewFile {
         return Err(Failure::Mistake(Mistake::OutMissing, None));
@@ -119,6 +129,7 @@ fn with_word(
     rt: &(impl Env + Files),
     options: Options,
     i: usize,
+    file: &mut Bytes<MOST_READ>,
     draws: &mut Draws,
 ) -> Result<Options, Failure> {
     let Options { out, next } = options;
@@ -127,7 +138,7 @@ fn with_word(
     }
     match next {
         Wanted::Draws => {
-            add_draws(rt, i, draws)?;
+            add_draws(rt, i, file, draws)?;
             Ok(options)
         }
         Wanted::NewFile => Ok(Options {
@@ -188,13 +199,14 @@ fn keep(
 fn take(
     rt: &(impl Env + Files + Print),
     step: Step,
+    file: &mut Bytes<MOST_READ>,
     board: &mut [u64; WORDS],
 ) -> Result<(), Failure> {
     let k = step.numbers();
     let first = number(rt, 4, 1 <= k)?;
     let second = number(rt, 5, 2 <= k)?;
     let mut draws = Draws::none();
-    let out = taken(rt, k.saturating_add(4), &mut draws)?;
+    let out = taken(rt, k.saturating_add(4), file, &mut draws)?;
     if !draws.as_slice().is_empty() && !step.takes_draws() {
         return Err(Failure::Mistake(Mistake::NoDrawsTaken, Some(3)));
     }
@@ -210,13 +222,14 @@ fn take(
 }
 
 pub(crate) fn run(rt: &(impl Env + Files + Print)) -> Result<(), Failure> {
+    let mut file = Bytes::none();
     let mut board = [0u64; WORDS];
-    files::read_board(rt, 2, &mut board)?;
+    files::read_board(rt, 2, &mut file, &mut board)?;
     if args::is_missing(rt, 3) {
         return Err(Failure::Mistake(Mistake::StepMissing, None));
     }
     match Step::named(args::word(rt, 3).as_slice()) {
-        Some(step) => take(rt, step, &mut board),
+        Some(step) => take(rt, step, &mut file, &mut board),
         None => Err(Failure::Mistake(Mistake::NoSuchStep, Some(3))),
     }
 }
