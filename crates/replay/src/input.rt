@@ -1,4 +1,6 @@
 // The recorded file: words one after another; past its end, and past a read that fails, each is 0.
+ghost use Rattle.std.specs.Prelude.{◌≤◌, length};
+
 use rooms::read_full;
 use std::io::Read;
 
@@ -16,7 +18,9 @@ pub(crate) fn fill(file: &mut impl Read, room: &mut [u64]) {
 }
 
 // So many bytes, and no more than there is room for.
-pub(crate) fn bytes<'a>(file: &mut impl Read, n: u64, room: &'a mut [u8]) -> &'a [u8] {
+pub(crate) fn bytes<'a>(file: &mut impl Read, n: u64, room: &'a mut [u8]) -> &'a [u8]
+    ensures { length result.now ≤ length room.old }
+{
     let k = room.len().min(n as usize);
     read_full(file, &mut room[..k]);
     &room[..k]
